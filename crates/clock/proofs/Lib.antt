@@ -1,0 +1,4 @@
+pub mod Ok
+pub mod RollLaws
+pub mod TickLaws
+pub mod TickCases

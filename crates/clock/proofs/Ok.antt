@@ -1,0 +1,74 @@
+-- What `inRange` says, as bounds that `omega` reads, and back.
+use mathlib.Core.Path.{_≡_}
+use mathlib.Core.Bool.{Bool, true, _&&_, _||_}
+use Prim.Native.Nat.{ℕ, _≤_, _<_, _*_, _^_}
+use native.Mathlib.Omega.{arith}
+use lib.Dec.{leb, eqb, lit<}
+use borrow.Author.Tests.{leb-true, le-leb}
+use lib.IntN.{ℤ}
+use Rattle.integers.proofs.Parts.{posPart, negPart}
+use Rattle.integers.proofs.Ranges.{and-true, true-and, within-parts, parts-within, between-parts, parts-between}
+use Rattle.clock.specs.State.{inRange, lastSecond, greatestError}
+use Rattle.clock.specs.declared.state.Clock.{Clock}
+
+pub record Ok (c : Clock) : Type 0 where
+  pub seconds : c .seconds ≤ 4294967295
+  pub micros : c .micros .0 ≤ 999999
+  pub phase : (posPart (c .phase .0) < 268435456) × (negPart (c .phase .0) < 268435456)
+  pub offset : (posPart (c .offset .0) ≤ 2097135616) × (negPart (c .offset .0) ≤ 2097135616)
+  pub frequency : (posPart (c .frequency .0) ≤ 1677721600) × (negPart (c .frequency .0) ≤ 1677721600)
+  pub adjustment : (posPart (c .adjustment .0) ≤ 303037440) × (negPart (c .adjustment .0) ≤ 168819712)
+  pub constant : c .constant ≤ 4
+  pub updated : c .updated ≤ 1
+  pub reftime : c .reftime ≤ 4294967295
+  pub update : eqb (c .updated) 1 || eqb (c .reftime) 0 ≡ true
+  pub maxerror : c .maxerror .0 ≤ 16000000
+  pub esterror : c .esterror .0 ≤ 16000000
+  pub status : c .status ≤ 4
+
+pub ok : (c : Clock) → inRange c ≡ true → Ok c
+unfolding inRange
+ok c e =
+    let a10 = and-true _ _ e in
+    let a9 = and-true _ _ (a10 .0) in
+    let a8 = and-true _ _ (a9 .0) in
+    let a7 = and-true _ _ (a8 .0) in
+    let a6 = and-true _ _ (a7 .0) in
+    let a5 = and-true _ _ (a6 .0) in
+    let a4 = and-true _ _ (a5 .0) in
+    let a3 = and-true _ _ (a4 .0) in
+    let a2 = and-true _ _ (a3 .0) in
+    let a1 = and-true _ _ (a2 .0) in
+    let u = and-true _ _ (a7 .1) in
+    let v = and-true _ _ (u .0) in
+    record {
+      seconds = leb-true _ _ (a1 .0);
+      micros = leb-true _ _ (a1 .1);
+      phase = between-parts _ _ (c .phase .0) (lit< tt) (lit< tt) (a2 .1);
+      offset = within-parts _ _ (c .offset .0) (a3 .1);
+      frequency = within-parts _ _ (c .frequency .0) (a4 .1);
+      adjustment = within-parts _ _ (c .adjustment .0) (a5 .1);
+      constant = leb-true _ _ (a6 .1);
+      updated = leb-true _ _ (v .0);
+      reftime = leb-true _ _ (v .1);
+      update = u .1;
+      maxerror = leb-true _ _ (a8 .1);
+      esterror = leb-true _ _ (a9 .1);
+      status = leb-true _ _ (a10 .1);
+    }
+
+pub ok-back : (c : Clock) → Ok c → inRange c ≡ true
+unfolding inRange
+ok-back c k =
+    true-and (true-and (true-and (true-and (true-and (true-and (true-and (true-and (true-and (true-and
+    (le-leb _ _ (k .seconds))
+    (le-leb _ _ (k .micros)))
+    (parts-between _ _ (c .phase .0) (k .phase .0) (k .phase .1)))
+    (parts-within _ _ (c .offset .0) (k .offset .0) (k .offset .1)))
+    (parts-within _ _ (c .frequency .0) (k .frequency .0) (k .frequency .1)))
+    (parts-within _ _ (c .adjustment .0) (k .adjustment .0) (k .adjustment .1)))
+    (le-leb _ _ (k .constant)))
+    (true-and (true-and (le-leb _ _ (k .updated)) (le-leb _ _ (k .reftime))) (k .update)))
+    (le-leb _ _ (k .maxerror)))
+    (le-leb _ _ (k .esterror)))
+    (le-leb _ _ (k .status))

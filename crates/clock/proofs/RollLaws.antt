@@ -1,0 +1,127 @@
+-- A rollover: its numbers fit 32 bits, the leap step by its three cases, and the clock stays in its ranges.
+use mathlib.Core.Path.{_≡_, refl}
+use mathlib.Core.Bool.{Bool, true, false, _&&_, cond}
+use Prim.Native.Nat.{ℕ, _+_, _-_, _*_, _/_, _%_, _≤_, _<_, _^_}
+use native.Mathlib.Omega.{arith}
+use native.Mathlib.Nat.{lt-of-le-of-lt, div-le-self, mul-div-le, mul-le-mul-right}
+use lib.Pow.{pow-mono, pow-pos}
+use lib.IntN.{ℤ, pos, _+ℤ_, _-ℤ_, _*ℤ_}
+use lib.Signed.{quotZ}
+use lib.Dec.{eqb, lit<}
+use borrow.Author.Tests.{eqb-true}
+use mir.Syntax.{w32}
+use mir.Val.{SFits}
+use Rattle.integers.proofs.Parts.{posPart, negPart, parts, one-part, sfits-parts}
+use Rattle.integers.proofs.Ranges.{and-true}
+use Rattle.clock.specs.Rollover.{shareDivisor, share, offsetLeft, adjustmentFor, inserts, deletes, leapSeconds, leapStatus, rolledOver}
+use Rattle.clock.specs.declared.state.Clock.{Clock}
+use Rattle.clock.proofs.Ok.{Ok}
+
+-- n / 2^(10 + k) is at most n / 1024
+div-least : (n k : ℕ) → n / shareDivisor k ≤ n / 1024
+div-least n k = omega (arith, mul-div-le n (shareDivisor k), mul-le-mul-right (n / shareDivisor k) (least k))
+  where
+    least : (k : ℕ) → 1024 ≤ shareDivisor k
+    least k = pow-mono {i = 10} (omega arith)
+
+pub divisor-pos : (k : ℕ) → 0 < shareDivisor k
+divisor-pos k = pow-pos (10 + k)
+
+pub adjustment-parts : (s f : ℤ) → (posPart s ≤ 2047984) × (negPart s ≤ 2047984) → (posPart f ≤ 1677721600) × (negPart f ≤ 1677721600)
+    → (posPart (adjustmentFor s f) ≤ 303037440) × (negPart (adjustmentFor s f) ≤ 168819712)
+adjustment-parts s f hs hf = simp parts (omega arith)
+
+-- the steps by which the adjustment is worked out fit
+pub record Adjusts (s f : ℤ) : Type 0 where
+  pub share : SFits w32 s
+  pub frequency : SFits w32 f
+  pub scaled : SFits w32 (pos 64 *ℤ s)
+  pub divided : SFits w32 (quotZ f (pos 16))
+  pub both : SFits w32 (pos 64 *ℤ s +ℤ quotZ f (pos 16))
+  pub adjusted : SFits w32 (adjustmentFor s f)
+
+pub adjusts : (s f : ℤ) → (posPart s ≤ 2047984) × (negPart s ≤ 2047984) → (posPart f ≤ 1677721600) × (negPart f ≤ 1677721600) → Adjusts s f
+adjusts s f hs hf =
+    record {
+      share = sfits-parts s (omega arith);
+      frequency = sfits-parts f (omega arith);
+      scaled = sfits-parts (pos 64 *ℤ s) (simp parts (omega arith));
+      divided = sfits-parts (quotZ f (pos 16)) (simp parts (omega arith));
+      both = sfits-parts (pos 64 *ℤ s +ℤ quotZ f (pos 16)) (simp parts (omega arith));
+      adjusted = sfits-parts (adjustmentFor s f) (omega (arith, adjustment-parts s f hs hf));
+    }
+
+module _ (c : Clock) (k : Ok c) where
+  abbrev left : ℤ
+  left = c .offset .0
+
+  pub share-parts : (posPart (share c) ≤ 2047984) × (negPart (share c) ≤ 2047984)
+  share-parts = simp parts (omega (arith, div-least (posPart left) (c .constant), div-least (negPart left) (c .constant)))
+
+  pub fits-offset : SFits w32 left
+  fits-offset = sfits-parts left (omega arith)
+
+  pub fits-share-of : SFits w32 (share c)
+  fits-share-of = sfits-parts (share c) (omega (arith, share-parts))
+
+  pub fits-divisor : SFits w32 (pos (shareDivisor (c .constant)))
+  fits-divisor = record { sfits = lt-of-le-of-lt (pow-mono {j = 14} (omega arith)) (lit< tt) }
+
+  -- share and rest are of the offset's sign
+  pub rest-posPart : posPart (share c) + posPart (offsetLeft c) ≡ posPart left
+  rest-posPart = simp parts (omega (arith, one-part left, div-le-self (posPart left) (shareDivisor (c .constant)), div-le-self (negPart left) (shareDivisor (c .constant))))
+
+  pub rest-negPart : negPart (share c) + negPart (offsetLeft c) ≡ negPart left
+  rest-negPart = simp parts (omega (arith, one-part left, div-le-self (posPart left) (shareDivisor (c .constant)), div-le-self (negPart left) (shareDivisor (c .constant))))
+
+  pub rest-parts : (posPart (offsetLeft c) ≤ 2097135616) × (negPart (offsetLeft c) ≤ 2097135616)
+  rest-parts = omega (arith, rest-posPart, rest-negPart)
+
+  pub fits-rest : SFits w32 (offsetLeft c)
+  fits-rest = sfits-parts (offsetLeft c) (omega (arith, rest-parts))
+
+pub data LeapCase (status s : ℕ) : Type 0 where
+  ins : inserts status s ≡ true → LeapCase status s
+  del : inserts status s ≡ false → deletes status s ≡ true → LeapCase status s
+  none : inserts status s ≡ false → deletes status s ≡ false → LeapCase status s
+
+module _ (status s : ℕ) where
+  by-both : (i d : Bool) → inserts status s ≡ i → deletes status s ≡ d → LeapCase status s
+  by-both true d e f = ins e
+  by-both false true e f = del e f
+  by-both false false e f = none e f
+
+  pub leapCase : LeapCase status s
+  leapCase = by-both (inserts status s) (deletes status s) refl refl
+
+  pub leap-seconds : s ≤ 4294967295 → LeapCase status s → leapSeconds status s ≤ 4294967295
+  leap-seconds h (ins e) = simp e (omega arith)
+  leap-seconds h (del e f) = simp (e, f) (omega (arith, eqb-true (s % 86400) 86399 (and-true (eqb status 2) (eqb (s % 86400) 86399) f .1)))
+  leap-seconds h (none e f) = simp (e, f) h
+
+  unless-oop : (b : Bool) → status ≤ 4 → cond b 0 status ≤ 4
+  unless-oop true h = omega arith
+  unless-oop false h = h
+
+  pub leap-status : status ≤ 4 → LeapCase status s → leapStatus status s ≤ 4
+  leap-status h (ins e) = simp e (omega arith)
+  leap-status h (del e f) = simp (e, f) (omega arith)
+  leap-status h (none e f) = simp (e, f) (unless-oop (eqb status 3) h)
+
+pub rolled-ok : (c : Clock) → Ok c → c .seconds < 4294967295 → Ok (rolledOver c)
+unfolding rolledOver
+rolled-ok c k h = record {
+  seconds = leap-seconds (c .status) (c .seconds + 1) (omega arith) (leapCase (c .status) (c .seconds + 1));
+  micros = k .micros;
+  phase = k .phase;
+  offset = rest-parts c k;
+  frequency = k .frequency;
+  adjustment = adjustment-parts (share c) (c .frequency .0) (share-parts c k) (k .frequency);
+  constant = k .constant;
+  updated = k .updated;
+  reftime = k .reftime;
+  update = k .update;
+  maxerror = omega arith;
+  esterror = k .esterror;
+  status = leap-status (c .status) (c .seconds + 1) (k .status) (leapCase (c .status) (c .seconds + 1));
+}

@@ -1,0 +1,64 @@
+-- A rollover does what `rolledOver` says, field by field.
+use borrow.Author.Needs.{needs}
+use mir.Facts.{toZ-ofZ}
+use Rattle.integers.proofs.Ranges.{parts-within}
+use Rattle.clock.specs.Rollover.{share, rolledOver}
+use Rattle.clock.proofs.Ok.{Ok, ok}
+use Rattle.clock.proofs.RollLaws.{fits-offset, fits-share-of, fits-rest, share-parts}
+use Rattle.clock.proofs.rollover.rollover.Statement.{statement}
+use Rattle.clock.proofs.rollover.rollover.Tie as tie
+
+known : (s : tie.Start) → Ok (s .args .c)
+known s = ok (s .args .c) (s .pre .0)
+
+maxerror-grown-requires : tie.Need-maxerror-grown-requires
+maxerror-grown-requires c κs = known c .maxerror
+
+share-of-requires : tie.Need-share-of-requires
+share-of-requires c κs = search needs
+
+sub-t7 : tie.Need-sub-t7
+sub-t7 c =
+    let k = known (c .before .before .before .before .before .before) in
+    simp (c .before .before .before .before .share-of .ensures, toZ-ofZ (fits-offset _ k), toZ-ofZ (fits-share-of _ k)) (fits-rest _ k)
+
+adjustment-for-requires : tie.Need-adjustment-for-requires
+adjustment-for-requires c κs =
+    let s = c .before .before .before .before .before .before in
+    let k = known s in (
+      rw (c .before .before .before .before .share-of .ensures) (parts-within _ _ (share (s .args .c)) (share-parts _ k .0) (share-parts _ k .1)),
+      parts-within _ _ (s .args .c .frequency .0) (k .frequency .0) (k .frequency .1),
+    )
+
+add-leap-step : tie.Need-add-leap-step
+add-leap-step c = search needs
+
+leap-step-requires : tie.Need-leap-step-requires
+leap-step-requires c κs = search needs
+
+returns : tie.Need-returns
+unfolding rolledOver
+returns c =
+    let m = c .before .before .before .before .before .before .before .before .before .before .before in
+    let k = known (m .before .before) in
+    simp (
+      c .before .before .before .before .leap-step .ensures,
+      c .before .before .before .before .before .before .adjustment-for .ensures,
+      m .share-of .ensures,
+      m .before .maxerror-grown .ensures,
+      toZ-ofZ (fits-offset _ k),
+      toZ-ofZ (fits-share-of _ k),
+      toZ-ofZ (fits-rest _ k),
+    )
+
+pub rollover-spec : {M : Type 1} → statement M
+rollover-spec =
+    tie.close
+    (tie.spec
+    maxerror-grown-requires
+    share-of-requires
+    sub-t7
+    adjustment-for-requires
+    add-leap-step
+    leap-step-requires
+    returns)

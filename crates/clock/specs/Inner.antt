@@ -1,0 +1,14 @@
+-- What the crate's private functions answer, in the terms of the rules. No public promise names these.
+use Prim.Native.Nat.{ℕ}
+use Rattle.clock.specs.Units.{micros, phaseUnits}
+use Rattle.clock.specs.Rollover.{leapSeconds, leapStatus}
+use Rattle.clock.specs.Tick.{microsGrown, phaseLeft}
+use Rattle.clock.specs.declared.state.Clock.{Clock}
+use Rattle.clock.specs.declared.rollover.Leap.{Leap}
+use Rattle.clock.specs.declared.tick.Advance.{Advance}
+
+abbrev pub leapOf : ℕ → ℕ → Leap
+leapOf status s = record { seconds = leapSeconds status s; status = leapStatus status s }
+
+abbrev pub advanceOf : Clock → Advance
+advanceOf c = record { micros = micros (microsGrown c); phase = phaseUnits (phaseLeft c) }

@@ -1,0 +1,15 @@
+-- "Numbers of the refusals", for the clock's own calls. 0 stands for no refusal.
+use Prim.Native.Nat.{ℕ}
+use mathlib.Core.Bool.{Bool, cond}
+use lib.Dec.{eqb}
+use Rattle.clock.specs.declared.state.Clock.{Clock}
+use Rattle.clock.specs.declared.outcome.Outcome.{Outcome}
+
+-- Number n where its condition holds, else what the later conditions give: written from the lowest number to the highest,
+-- such a chain gives "the lowest that applies".
+abbrev pub refuse : Bool → ℕ → ℕ → ℕ
+refuse applies n later = cond applies n later
+
+-- "A refused call hands back the state it got": the answer of a call on c with refusal n that would make `next` of c.
+abbrev pub answer : ℕ → Clock → Clock → Outcome
+answer n next c = record { refusal = n; clock = cond (eqb n 0) next c }

@@ -1,0 +1,63 @@
+-- "Rollover, in this order."
+use Prim.Native.Nat.{ℕ, _+_, _-_, _%_, _^_, min}
+use mathlib.Core.Bool.{Bool, _&&_, cond}
+use lib.Dec.{eqb}
+use lib.IntN.{ℤ, pos, _+ℤ_, _-ℤ_, _*ℤ_}
+use lib.Signed.{quotZ}
+use Rattle.clock.specs.Units.{micros, offsetUnits, phaseUnits, secondsPerDay}
+use Rattle.clock.specs.Device.{device}
+use Rattle.clock.specs.State.{greatestError, statusOk, statusIns, statusDel, statusOop}
+use Rattle.clock.specs.declared.state.Clock.{Clock}
+
+-- "Maximum error + 100, at most 16,000,000" (us)
+abbrev pub maxerrorGrown : ℕ → ℕ
+maxerrorGrown e = min (e + 100) greatestError
+
+-- "Share = offset left / 2^(10 + time constant)" (offset units)
+abbrev pub shareDivisor : ℕ → ℕ
+shareDivisor k = 2 ^ (10 + k)
+
+abbrev pub share : Clock → ℤ
+share c = quotZ (c .offset .0) (pos (shareDivisor (c .constant)))
+
+-- "offset left falls by the share" (offset units)
+abbrev pub offsetLeft : Clock → ℤ
+offsetLeft c = c .offset .0 -ℤ share c
+
+-- "Adjustment = 64 x share + frequency / 16 + 67,108,864" (phase units), of a share and a frequency
+abbrev pub adjustmentFor : ℤ → ℤ → ℤ
+adjustmentFor s f = device .scale *ℤ s +ℤ quotZ f (device .divisor) +ℤ device .base .0
+
+-- "Then at most one of these, by the status before", s being the second that the rollover has reached:
+-- "INS and seconds divisible by 86,400: seconds - 1, OOP."
+abbrev pub inserts : ℕ → ℕ → Bool
+inserts status s = eqb status statusIns && eqb (s % secondsPerDay) 0
+
+-- "DEL and seconds mod 86,400 = 86,399: seconds + 1, OK."
+abbrev pub deletes : ℕ → ℕ → Bool
+deletes status s = eqb status statusDel && eqb (s % secondsPerDay) 86399
+
+abbrev pub leapSeconds : ℕ → ℕ → ℕ
+leapSeconds status s = cond (inserts status s) (s - 1) (cond (deletes status s) (s + 1) s)
+
+-- "OOP: OK."
+abbrev pub leapStatus : ℕ → ℕ → ℕ
+leapStatus status s = cond (inserts status s) statusOop (cond (deletes status s) statusOk (cond (eqb status statusOop) statusOk status))
+
+-- "Seconds + 1", and all of the above.
+unfoldable pub rolledOver : Clock → Clock
+rolledOver c =
+    record {
+      seconds = leapSeconds (c .status) (c .seconds + 1);
+      micros = c .micros;
+      phase = c .phase;
+      offset = offsetUnits (offsetLeft c);
+      frequency = c .frequency;
+      adjustment = phaseUnits (adjustmentFor (share c) (c .frequency .0));
+      constant = c .constant;
+      updated = c .updated;
+      reftime = c .reftime;
+      maxerror = micros (maxerrorGrown (c .maxerror .0));
+      esterror = c .esterror;
+      status = leapStatus (c .status) (c .seconds + 1);
+    }

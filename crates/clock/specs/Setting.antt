@@ -1,0 +1,43 @@
+-- "Setting (seconds, microseconds)."
+use Prim.Native.Nat.{ℕ}
+use mathlib.Core.Bool.{Bool, _&&_, not}
+use lib.Dec.{leb}
+use lib.IntN.{ℤ, pos}
+use Rattle.clock.specs.Units.{micros, offsetUnits, phaseUnits}
+use Rattle.clock.specs.State.{inRange, lastSecond, greatestError, statusBad}
+use Rattle.clock.specs.Refusal.{refuse, answer}
+use Rattle.clock.specs.Rollover.{adjustmentFor}
+use Rattle.clock.specs.declared.state.Clock.{Clock}
+use Rattle.clock.specs.declared.units.AskedMicros.{AskedMicros}
+use Rattle.clock.specs.declared.outcome.Outcome.{Outcome}
+
+-- "Both replaced; phase and offset left 0; no earlier update; adjustment as at a rollover with share 0; both errors 16,000,000;
+-- status BAD. Frequency and time constant stay."
+abbrev pub setTo : Clock → ℕ → AskedMicros → Clock
+setTo c s u =
+    record {
+      seconds = s;
+      micros = micros (u .0);
+      phase = phaseUnits (pos 0);
+      offset = offsetUnits (pos 0);
+      frequency = c .frequency;
+      adjustment = phaseUnits (adjustmentFor (pos 0) (c .frequency .0));
+      constant = c .constant;
+      updated = 0;
+      reftime = 0;
+      maxerror = micros greatestError;
+      esterror = micros greatestError;
+      status = statusBad;
+    }
+
+-- within "the ranges of seconds or microseconds"
+abbrev pub settable : ℕ → AskedMicros → Bool
+settable s u = leb s lastSecond && leb (u .0) 999999
+
+-- 1 "a state field lies outside its range", 2 "a setting outside the ranges of seconds or microseconds"
+unfoldable pub settingRefusal : Clock → ℕ → AskedMicros → ℕ
+settingRefusal c s u = refuse (not (inRange c)) 1 (refuse (not (settable s u)) 2 0)
+
+-- what a setting answers
+unfoldable pub settingOf : Clock → ℕ → AskedMicros → Outcome
+settingOf c s u = answer (settingRefusal c s u) (setTo c s u) c

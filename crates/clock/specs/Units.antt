@@ -1,0 +1,35 @@
+-- The kinds of number, and what they are worth. An offset unit is 2^-14 us, a phase unit 2^-28 us, a frequency unit 2^-24 ppm.
+use Prim.Native.Nat.{ℕ, _^_}
+use lib.IntN.{ℤ}
+use Rattle.clock.specs.declared.units.Micros.{Micros}
+use Rattle.clock.specs.declared.units.OffsetUnits.{OffsetUnits}
+use Rattle.clock.specs.declared.units.PhaseUnits.{PhaseUnits}
+use Rattle.clock.specs.declared.units.Frequency.{Frequency}
+
+abbrev pub micros : ℕ → Micros
+micros n = record { 0 = n }
+
+abbrev pub offsetUnits : ℤ → OffsetUnits
+offsetUnits z = record { 0 = z }
+
+abbrev pub phaseUnits : ℤ → PhaseUnits
+phaseUnits z = record { 0 = z }
+
+abbrev pub frequencyUnits : ℤ → Frequency
+frequencyUnits z = record { 0 = z }
+
+-- offset units in a microsecond
+abbrev pub offsetUnitsPerMicro : ℕ
+offsetUnitsPerMicro = 2 ^ 14
+
+-- phase units in a microsecond
+abbrev pub phaseUnitsPerMicro : ℕ
+phaseUnitsPerMicro = 2 ^ 28
+
+-- microseconds in a second
+abbrev pub microsPerSecond : ℕ
+microsPerSecond = 1000000
+
+-- seconds in a day
+abbrev pub secondsPerDay : ℕ
+secondsPerDay = 86400

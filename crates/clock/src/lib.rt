@@ -1,0 +1,10 @@
+// The disciplined clock of README.kern and RFC 1589: a state by value, and the calls that give the next state and an answer.
+// Every public function is total: a state or an argument that is not sound gets its refusal number, and the state comes back unchanged.
+pub mod device;
+pub mod outcome;
+pub mod reading;
+mod rollover;
+pub mod setting;
+pub mod state;
+pub mod tick;
+pub mod units;

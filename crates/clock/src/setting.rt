@@ -1,0 +1,50 @@
+ghost use mathlib.Core.Path.{_≡_};
+ghost use Rattle.clock.specs.Setting.{settingOf};
+use crate::outcome::Outcome;
+use crate::rollover::adjustment_for;
+use crate::state::Clock;
+use crate::state::LAST_SECOND;
+use crate::state::MAX_ERROR;
+use crate::state::in_range;
+use crate::units::AskedMicros;
+use crate::units::Micros;
+use crate::units::OffsetUnits;
+use crate::units::PhaseUnits;
+
+// The clock set to a time; frequency and time constant stay.
+pub fn set(c: Clock, seconds: u64, micros: AskedMicros) -> Outcome
+    ensures { λ r. ⌜ r ≡ settingOf c seconds micros ⌝ }
+{
+    if !in_range(c) {
+        return Outcome {
+            refusal: 1,
+            clock: c,
+        };
+    }
+    if !((seconds <= LAST_SECOND as u64) & (micros.0 <= 999999)) {
+        return Outcome {
+            refusal: 2,
+            clock: c,
+        };
+    }
+    let none = OffsetUnits(0);
+    let us = Micros(micros.0 as u32);
+    let adjustment = adjustment_for(none, c.frequency);
+    let next = Clock {
+        seconds: seconds as u32,
+        micros: us,
+        phase: PhaseUnits(0),
+        offset: none,
+        adjustment: adjustment,
+        updated: 0,
+        reftime: 0,
+        maxerror: Micros(MAX_ERROR),
+        esterror: Micros(MAX_ERROR),
+        status: 4,
+        ..c
+    };
+    Outcome {
+        refusal: 0,
+        clock: next,
+    }
+}

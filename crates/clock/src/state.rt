@@ -1,0 +1,77 @@
+ghost use mathlib.Core.Path.{_≡_};
+ghost use Rattle.clock.specs.State.{inRange, freshClock};
+use crate::device::RECORDER;
+use crate::units::Frequency;
+use crate::units::Micros;
+use crate::units::OffsetUnits;
+use crate::units::PhaseUnits;
+
+// The last second that the clock can tell.
+pub const LAST_SECOND: u32 = 4294967295;
+
+// The limit of both errors.
+pub const MAX_ERROR: u32 = 16000000;
+
+// A clock's state, in the order of document 01's table. Any value of the type may be handed in, sound or not.
+pub struct Clock {
+    // seconds since 1970-01-01T00:00:00Z
+    pub seconds: u32,
+    // microseconds of the second
+    pub micros: Micros,
+    // the part of a microsecond that no reading shows
+    pub phase: PhaseUnits,
+    // what is left of the last offset
+    pub offset: OffsetUnits,
+    pub frequency: Frequency,
+    // what each tick adds to the phase
+    pub adjustment: PhaseUnits,
+    // time constant of the loop, as a power of two
+    pub constant: u8,
+    // 1 if an offset was accepted since the last setting (document 01's earlier update), else 0
+    pub updated: u8,
+    // the second of that offset, or 0
+    pub reftime: u32,
+    pub maxerror: Micros,
+    pub esterror: Micros,
+    // TIME_OK 0, TIME_INS 1, TIME_DEL 2, TIME_OOP 3, TIME_BAD 4 (in today's sys/timex.h TIME_BAD is 5)
+    pub status: u8,
+}
+
+// Whether each field lies in its range.
+pub fn in_range(c: Clock) -> bool
+    ensures { λ r. ⌜ r ≡ inRange c ⌝ }
+{
+    // Every u32 is a second that can be told: those two tests cost nothing, and are here for the table's sake.
+    (c.seconds <= LAST_SECOND)
+        & (c.micros.0 <= 999999)
+        & ((-268435456 < c.phase.0) & (c.phase.0 < 268435456))
+        & ((-2097135616 <= c.offset.0) & (c.offset.0 <= 2097135616))
+        & ((-1677721600 <= c.frequency.0) & (c.frequency.0 <= 1677721600))
+        & ((RECORDER.least.0 <= c.adjustment.0) & (c.adjustment.0 <= RECORDER.most.0))
+        & (c.constant <= 4)
+        & ((c.updated <= 1) & (c.reftime <= LAST_SECOND) & ((c.updated == 1) | (c.reftime == 0)))
+        & (c.maxerror.0 <= MAX_ERROR)
+        & (c.esterror.0 <= MAX_ERROR)
+        & (c.status <= 4)
+}
+
+// The clock before anything has happened to it, which counts as set to 0 s.
+pub fn fresh() -> Clock
+    ensures { λ r. ⌜ r ≡ freshClock ⌝ }
+{
+    let base = RECORDER.base;
+    Clock {
+        seconds: 0,
+        micros: Micros(0),
+        phase: PhaseUnits(0),
+        offset: OffsetUnits(0),
+        frequency: Frequency(0),
+        adjustment: base,
+        constant: 0,
+        updated: 0,
+        reftime: 0,
+        maxerror: Micros(MAX_ERROR),
+        esterror: Micros(MAX_ERROR),
+        status: 4,
+    }
+}

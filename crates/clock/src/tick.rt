@@ -1,0 +1,73 @@
+ghost use mathlib.Core.Path.{_≡_};
+ghost use mathlib.Core.Bool.{true};
+ghost use Rattle.clock.specs.State.{inRange};
+ghost use Rattle.clock.specs.Tick.{tickOf};
+ghost use Rattle.clock.specs.Inner.{advanceOf};
+use crate::device::RECORDER;
+use crate::outcome::Outcome;
+use crate::rollover::rollover;
+use crate::state::Clock;
+use crate::state::LAST_SECOND;
+use crate::state::in_range;
+use crate::units::Micros;
+use crate::units::PhaseUnits;
+
+// The microseconds and the phase that a tick leads to, before a rollover takes a second off.
+struct Advance {
+    micros: Micros,
+    phase: PhaseUnits,
+}
+
+fn advance_of(c: Clock) -> Advance
+    requires { ⌜ inRange c ≡ true ⌝ }
+    ensures { λ r. ⌜ r ≡ advanceOf c ⌝ }
+{
+    let sum = c.phase.0 + c.adjustment.0;
+    let carry = sum / 268435456;
+    Advance {
+        micros: Micros(((c.micros.0 + RECORDER.tick.0) as i32 + carry) as u32),
+        phase: PhaseUnits(sum - carry * 268435456),
+    }
+}
+
+// One timer tick: hardclock() of RFC 1589.
+pub fn tick(c: Clock) -> Outcome
+    ensures { λ r. ⌜ r ≡ tickOf c ⌝ }
+{
+    if !in_range(c) {
+        return Outcome {
+            refusal: 1,
+            clock: c,
+        };
+    }
+    let a = advance_of(c);
+    let us = a.micros;
+    let phase = a.phase;
+    if us.0 < 1000000 {
+        let next = Clock {
+            micros: us,
+            phase: phase,
+            ..c
+        };
+        return Outcome {
+            refusal: 0,
+            clock: next,
+        };
+    }
+    if c.seconds == LAST_SECOND {
+        return Outcome {
+            refusal: 3,
+            clock: c,
+        };
+    }
+    let rest = Micros(us.0 - 1000000);
+    let next = rollover(Clock {
+        micros: rest,
+        phase: phase,
+        ..c
+    });
+    Outcome {
+        refusal: 0,
+        clock: next,
+    }
+}

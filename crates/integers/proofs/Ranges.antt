@@ -1,0 +1,41 @@
+-- Ranges of integers, tested by `leZ` and `ltZ`, as bounds on both parts; and conjunctions of tests taken apart and put together.
+use mathlib.Core.Path.{_≡_, refl}
+use mathlib.Core.Bool.{Bool, true, false, _&&_, false≢true}
+use Prim.Native.Nat.{ℕ, suc, _+_, _≤_, _<_}
+use native.Mathlib.Omega.{arith}
+use lib.IntN.{ℤ, pos, negℤ}
+use lib.Signed.{leZ, ltZ}
+use Rattle.integers.proofs.Parts.{posPart, negPart, parts, one-part, posPart-neg, negPart-neg, le-parts, parts-le, lt-parts, parts-lt}
+
+pub and-true : (a b : Bool) → a && b ≡ true → (a ≡ true) × (b ≡ true)
+and-true true b e = (refl, e)
+and-true false b e = absurd (false≢true e)
+
+pub true-and : {a b : Bool} → a ≡ true → b ≡ true → a && b ≡ true
+true-and {a = true} e f = f
+true-and {a = false} e f = absurd (false≢true e)
+
+module _ (l h : ℕ) (z : ℤ) where
+  -- -l ≤ z ≤ h
+  pub within-parts : (leZ (negℤ (pos l)) z && leZ z (pos h)) ≡ true → (posPart z ≤ h) × (negPart z ≤ l)
+  within-parts e =
+      let p = and-true (leZ (negℤ (pos l)) z) (leZ z (pos h)) e in
+      omega (arith, le-parts (negℤ (pos l)) z (p .0), le-parts z (pos h) (p .1), posPart-neg (pos l), negPart-neg (pos l), one-part z)
+
+  pub parts-within : posPart z ≤ h → negPart z ≤ l → (leZ (negℤ (pos l)) z && leZ z (pos h)) ≡ true
+  parts-within a b =
+      true-and
+      (parts-le (negℤ (pos l)) z (omega (arith, posPart-neg (pos l), negPart-neg (pos l))))
+      (parts-le z (pos h) (omega arith))
+
+  -- -l < z < h
+  pub between-parts : 0 < l → 0 < h → (ltZ (negℤ (pos l)) z && ltZ z (pos h)) ≡ true → (posPart z < h) × (negPart z < l)
+  between-parts k m e =
+      let p = and-true (ltZ (negℤ (pos l)) z) (ltZ z (pos h)) e in
+      omega (arith, lt-parts (negℤ (pos l)) z (p .0), lt-parts z (pos h) (p .1), posPart-neg (pos l), negPart-neg (pos l), one-part z)
+
+  pub parts-between : posPart z < h → negPart z < l → (ltZ (negℤ (pos l)) z && ltZ z (pos h)) ≡ true
+  parts-between a b =
+      true-and
+      (parts-lt (negℤ (pos l)) z (omega (arith, posPart-neg (pos l), negPart-neg (pos l))))
+      (parts-lt z (pos h) (omega arith))
