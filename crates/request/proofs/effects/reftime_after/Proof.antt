@@ -1,0 +1,21 @@
+-- The present second where an offset is selected, else the one before.
+use borrow.Author.Needs.{needs}
+use mathlib.Core.Path.{sym, _∙_}
+use Rattle.request.proofs.effects.reftime_after.Statement.{statement}
+use Rattle.request.proofs.effects.reftime_after.Tie as tie
+
+is-set-requires : tie.Need-is-set-requires
+is-set-requires c κs = search needs
+
+returns : tie.Need-returns
+returns c =
+    let t = sym (c .before .is-set .ensures) ∙ c .if1 .taken in
+    simp t
+
+returns-2 : tie.Need-returns-2
+returns-2 c =
+    let t = sym (c .before .is-set .ensures) ∙ c .if1 .left in
+    simp t
+
+pub reftime-after-spec : {M : Type 1} → statement M
+reftime-after-spec = tie.close (tie.spec is-set-requires returns returns-2)

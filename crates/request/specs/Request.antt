@@ -1,0 +1,158 @@
+-- "Request."
+use Prim.Native.Nat.{ℕ, _+_, _-_, _*_, _/_, _%_, _^_, min}
+use mathlib.Core.Bool.{Bool, _&&_, _||_, not, cond}
+use lib.Dec.{ltb, eqb}
+use lib.IntN.{ℤ, pos, negℤ, _+ℤ_, _*ℤ_}
+use lib.Signed.{quotZ, ltZ}
+use Rattle.clock.specs.Units.{micros, offsetUnits, frequencyUnits, offsetUnitsPerMicro}
+use Rattle.clock.specs.State.{inRange, atMost, below, greatestOffset, greatestFrequency, greatestConstant, greatestError, statusOk, statusBad}
+use Rattle.clock.specs.Refusal.{refuse, answer}
+use Rattle.clock.specs.declared.state.Clock.{Clock}
+use Rattle.clock.specs.declared.units.Micros.{Micros}
+use Rattle.clock.specs.declared.outcome.Outcome.{Outcome}
+use Rattle.request.specs.declared.request.Request.{Request}
+
+-- the mode has this bit, a power of two
+abbrev pub bitSet : ℕ → ℕ → Bool
+bitSet mode bit = eqb (mode / bit % 2) 1
+
+-- "A mode number selects fields: 1 offset (us), 2 frequency, 4 maximum error, 8 estimated error, 16 status, 32 time constant."
+abbrev pub selectsOffset : Request → Bool
+selectsOffset r = bitSet (r .mode) 1
+
+abbrev pub selectsFrequency : Request → Bool
+selectsFrequency r = bitSet (r .mode) 2
+
+abbrev pub selectsMaxerror : Request → Bool
+selectsMaxerror r = bitSet (r .mode) 4
+
+abbrev pub selectsEsterror : Request → Bool
+selectsEsterror r = bitSet (r .mode) 8
+
+abbrev pub selectsStatus : Request → Bool
+selectsStatus r = bitSet (r .mode) 16
+
+abbrev pub selectsConstant : Request → Bool
+selectsConstant r = bitSet (r .mode) 32
+
+-- 4 "mode above 63"
+abbrev pub modeAbove : Request → Bool
+modeAbove r = ltb 63 (r .mode)
+
+-- 5 "selected offset not within -127,999..127,999"
+abbrev pub offsetOutside : Request → Bool
+offsetOutside r = selectsOffset r && not (atMost greatestOffset (r .offset .0))
+
+-- 6 "selected frequency not strictly between the ends of its range"
+abbrev pub frequencyOutside : Request → Bool
+frequencyOutside r = selectsFrequency r && not (below greatestFrequency (r .frequency .0))
+
+-- 7 "a selected error above 16,000,000"
+abbrev pub errorAbove : Request → Bool
+errorAbove r = (selectsMaxerror r && ltb greatestError (r .maxerror .0)) || (selectsEsterror r && ltb greatestError (r .esterror .0))
+
+-- 8 "selected status above 4"
+abbrev pub statusAbove : Request → Bool
+statusAbove r = selectsStatus r && ltb statusBad (r .status)
+
+-- 9 "selected time constant above 4"
+abbrev pub constantAbove : Request → Bool
+constantAbove r = selectsConstant r && ltb greatestConstant (r .constant)
+
+-- "The lowest of 1 to 9 that applies is given"; "Unselected fields are not examined."
+unfoldable pub requestRefusal : Clock → Request → ℕ
+requestRefusal c r =
+    refuse (not (inRange c)) 1
+    (refuse (modeAbove r) 4
+    (refuse (offsetOutside r) 5
+    (refuse (frequencyOutside r) 6
+    (refuse (errorAbove r) 7
+    (refuse (statusAbove r) 8
+    (refuse (constantAbove r) 9
+    0))))))
+
+-- "Effects in the order frequency, errors, status, time constant, offset."
+-- the frequency, before an offset moves it (frequency units)
+abbrev pub frequencyWritten : Clock → Request → ℤ
+frequencyWritten c r = cond (selectsFrequency r) (r .frequency .0) (c .frequency .0)
+
+-- both errors (us)
+abbrev pub maxerrorWritten : Clock → Request → Micros
+maxerrorWritten c r = cond (selectsMaxerror r) (micros (r .maxerror .0)) (c .maxerror)
+
+abbrev pub esterrorWritten : Clock → Request → Micros
+esterrorWritten c r = cond (selectsEsterror r) (micros (r .esterror .0)) (c .esterror)
+
+-- "Status is written only if the present status is OK or the written one is BAD; otherwise it is left"
+abbrev pub statusWritten : Clock → Request → ℕ
+statusWritten c r = cond (selectsStatus r && (eqb (c .status) statusOk || eqb (r .status) statusBad)) (r .status) (c .status)
+
+-- the time constant
+abbrev pub constantWritten : Clock → Request → ℕ
+constantWritten c r = cond (selectsConstant r) (r .constant) (c .constant)
+
+-- "An offset replaces offset left by offset x 2^14." (offset units)
+abbrev pub offsetAfter : Clock → Request → ℤ
+offsetAfter c r = cond (selectsOffset r) (r .offset .0 *ℤ pos offsetUnitsPerMicro) (c .offset .0)
+
+-- "Interval = seconds now minus the second of the earlier update; 0 if there is none or it is negative; at most 1,024." (s)
+-- Below 0 the difference of two naturals is 0.
+abbrev pub interval : Clock → ℕ
+interval c = cond (eqb (c .updated) 1) (min (c .seconds - c .reftime) 1024) 0
+
+-- "Frequency grows by offset x interval / 4^(time constant)" (frequency units)
+abbrev pub gainDivisor : ℕ → ℕ
+gainDivisor k = 4 ^ k
+
+abbrev pub gain : ℤ → ℕ → ℕ → ℤ
+gain o n k = quotZ (o *ℤ pos n) (pos (gainDivisor k))
+
+-- "then is clamped to its range" (frequency units)
+abbrev pub clamp : ℤ → ℤ
+clamp z =
+    cond (ltZ z (negℤ (pos greatestFrequency)))
+    (negℤ (pos greatestFrequency))
+    (cond (ltZ (pos greatestFrequency) z) (pos greatestFrequency) z)
+
+-- the frequency after the request: the gain takes the frequency and the time constant that this request wrote
+abbrev pub frequencyAfter : Clock → Request → ℤ
+frequencyAfter c r =
+    cond (selectsOffset r)
+    (clamp (frequencyWritten c r +ℤ gain (r .offset .0) (interval c) (constantWritten c r)))
+    (frequencyWritten c r)
+
+-- "The present second becomes the earlier update."
+abbrev pub updatedAfter : Clock → Request → ℕ
+updatedAfter c r = cond (selectsOffset r) 1 (c .updated)
+
+abbrev pub reftimeAfter : Clock → Request → ℕ
+reftimeAfter c r = cond (selectsOffset r) (c .seconds) (c .reftime)
+
+-- "A selected offset also turns status BAD to OK, unless this request writes BAD"
+abbrev pub writesBad : Request → Bool
+writesBad r = selectsStatus r && eqb (r .status) statusBad
+
+abbrev pub statusAfter : Clock → Request → ℕ
+statusAfter c r = cond (selectsOffset r && eqb (statusWritten c r) statusBad && not (writesBad r)) statusOk (statusWritten c r)
+
+-- All effects. "Nothing else moves before the next rollover. Mode 0 is accepted and changes nothing."
+unfoldable pub requested : Clock → Request → Clock
+requested c r =
+    record {
+      seconds = c .seconds;
+      micros = c .micros;
+      phase = c .phase;
+      offset = offsetUnits (offsetAfter c r);
+      frequency = frequencyUnits (frequencyAfter c r);
+      adjustment = c .adjustment;
+      constant = constantWritten c r;
+      updated = updatedAfter c r;
+      reftime = reftimeAfter c r;
+      maxerror = maxerrorWritten c r;
+      esterror = esterrorWritten c r;
+      status = statusAfter c r;
+    }
+
+-- what a request answers
+unfoldable pub requestOf : Clock → Request → Outcome
+requestOf c r = answer (requestRefusal c r) (requested c r) c

@@ -1,0 +1,137 @@
+ghost use mathlib.Core.Path.{_≡_};
+ghost use mathlib.Core.Bool.{Bool, true, cond};
+ghost use Prim.Native.Nat.{ℕ, _≤_};
+ghost use Rattle.clock.specs.Units.{micros, offsetUnits, frequencyUnits};
+ghost use Rattle.request.specs.Request.{requestRefusal, frequencyWritten, constantWritten, statusWritten, offsetAfter, frequencyAfter, statusAfter, reftimeAfter, requested};
+use crate::gain::clamped_sum;
+use crate::gain::gain_of;
+use crate::gain::interval_of;
+use crate::refusal::is_set;
+use crate::request::ADJ_CONSTANT;
+use crate::request::ADJ_ESTERROR;
+use crate::request::ADJ_FREQUENCY;
+use crate::request::ADJ_MAXERROR;
+use crate::request::ADJ_OFFSET;
+use crate::request::ADJ_STATUS;
+use crate::request::Request;
+use clock::state::Clock;
+use clock::units::AskedMicros;
+use clock::units::Frequency;
+use clock::units::Micros;
+use clock::units::OffsetUnits;
+
+fn frequency_written(c: Clock, r: Request) -> Frequency
+    requires { ⌜ requestRefusal c r ≡ 0 ⌝ }
+    ensures { λ q. ⌜ q ≡ frequencyUnits (frequencyWritten c r) ⌝ }
+{
+    if is_set(r.mode, ADJ_FREQUENCY) {
+        return Frequency(r.frequency.0 as i32);
+    }
+    c.frequency
+}
+
+fn error_written(selected: bool, asked: AskedMicros, present: Micros) -> Micros
+    requires { ⌜ (selected ≡ true → asked .0 ≤ 16000000) ⌝ }
+    ensures { λ q. ⌜ q ≡ cond selected (micros (asked .0)) present ⌝ }
+{
+    if selected {
+        return Micros(asked.0 as u32);
+    }
+    present
+}
+
+// A status or a time constant: both are at most 4.
+fn number_written(written: bool, asked: u64, present: u8) -> u8
+    requires { ⌜ (written ≡ true → asked ≤ 4) ⌝ }
+    ensures { λ q. ⌜ q ≡ cond written asked present ⌝ }
+{
+    if written {
+        return asked as u8;
+    }
+    present
+}
+
+fn status_written(c: Clock, r: Request) -> u8
+    requires { ⌜ requestRefusal c r ≡ 0 ⌝ }
+    ensures { λ q. ⌜ q ≡ statusWritten c r ⌝ }
+{
+    let written = is_set(r.mode, ADJ_STATUS) & ((c.status == 0) | (r.status == 4));
+    number_written(written, r.status, c.status)
+}
+
+fn constant_written(c: Clock, r: Request) -> u8
+    requires { ⌜ requestRefusal c r ≡ 0 ⌝ }
+    ensures { λ q. ⌜ q ≡ constantWritten c r ⌝ }
+{
+    number_written(is_set(r.mode, ADJ_CONSTANT), r.constant, c.constant)
+}
+
+fn offset_after(c: Clock, r: Request) -> OffsetUnits
+    requires { ⌜ requestRefusal c r ≡ 0 ⌝ }
+    ensures { λ q. ⌜ q ≡ offsetUnits (offsetAfter c r) ⌝ }
+{
+    if is_set(r.mode, ADJ_OFFSET) {
+        return OffsetUnits(r.offset.0 as i32 * 16384);
+    }
+    c.offset
+}
+
+fn frequency_after(c: Clock, r: Request) -> Frequency
+    requires { ⌜ requestRefusal c r ≡ 0 ⌝ }
+    ensures { λ q. ⌜ q ≡ frequencyUnits (frequencyAfter c r) ⌝ }
+{
+    let f = frequency_written(c, r);
+    if is_set(r.mode, ADJ_OFFSET) {
+        let constant = constant_written(c, r);
+        let g = gain_of(r.offset, interval_of(c), constant);
+        return clamped_sum(f, g);
+    }
+    f
+}
+
+fn status_after(c: Clock, r: Request) -> u8
+    requires { ⌜ requestRefusal c r ≡ 0 ⌝ }
+    ensures { λ q. ⌜ q ≡ statusAfter c r ⌝ }
+{
+    let s = status_written(c, r);
+    let bad = is_set(r.mode, ADJ_STATUS) & (r.status == 4);
+    if is_set(r.mode, ADJ_OFFSET) & (s == 4) & !bad {
+        return 0;
+    }
+    s
+}
+
+fn reftime_after(c: Clock, r: Request) -> u32
+    ensures { λ q. ⌜ q ≡ reftimeAfter c r ⌝ }
+{
+    if is_set(r.mode, ADJ_OFFSET) {
+        return c.seconds;
+    }
+    c.reftime
+}
+
+// The clock with every effect of a request that is not refused.
+pub(crate) fn requested_of(c: Clock, r: Request) -> Clock
+    requires { ⌜ requestRefusal c r ≡ 0 ⌝ }
+    ensures { λ q. ⌜ q ≡ requested c r ⌝ }
+{
+    let offset = offset_after(c, r);
+    let frequency = frequency_after(c, r);
+    let constant = constant_written(c, r);
+    let updated = number_written(is_set(r.mode, ADJ_OFFSET), 1, c.updated);
+    let reftime = reftime_after(c, r);
+    let maxerror = error_written(is_set(r.mode, ADJ_MAXERROR), r.maxerror, c.maxerror);
+    let esterror = error_written(is_set(r.mode, ADJ_ESTERROR), r.esterror, c.esterror);
+    let status = status_after(c, r);
+    Clock {
+        offset: offset,
+        frequency: frequency,
+        constant: constant,
+        updated: updated,
+        reftime: reftime,
+        maxerror: maxerror,
+        esterror: esterror,
+        status: status,
+        ..c
+    }
+}

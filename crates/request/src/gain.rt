@@ -1,0 +1,67 @@
+ghost use mathlib.Core.Path.{_≡_};
+ghost use mathlib.Core.Bool.{true};
+ghost use Prim.Native.Nat.{_≤_};
+ghost use lib.IntN.{pos, _+ℤ_};
+ghost use Rattle.clock.specs.Units.{frequencyUnits};
+ghost use Rattle.clock.specs.State.{atMost, greatestFrequency, greatestOffset, inRange};
+ghost use Rattle.request.specs.Request.{interval, gainDivisor, gain, clamp};
+use crate::units::OffsetMicros;
+use clock::state::Clock;
+use clock::units::Frequency;
+
+// Seconds since the earlier update, at most 1,024.
+pub(crate) fn interval_of(c: Clock) -> u32
+    ensures { λ r. ⌜ r ≡ interval c ⌝ }
+{
+    if c.updated == 1 {
+        if c.seconds <= c.reftime {
+            return 0;
+        }
+        let d = c.seconds - c.reftime;
+        if d <= 1024 {
+            return d;
+        }
+        return 1024;
+    }
+    0
+}
+
+fn gain_divisor(constant: u8) -> i32
+    requires { ⌜ constant ≤ 4 ⌝ }
+    ensures { λ r. ⌜ r ≡ pos (gainDivisor constant) ⌝ }
+{
+    match constant {
+        0 => 1,
+        1 => 4,
+        2 => 16,
+        3 => 64,
+        _ => 256,
+    }
+}
+
+// What an offset adds to the frequency: RFC 1589 divides by the time constant's power.
+pub(crate) fn gain_of(o: OffsetMicros, n: u32, constant: u8) -> Frequency
+    requires { ⌜ atMost greatestOffset (o .0) ≡ true ⌝ }
+    requires { ⌜ n ≤ 1024 ⌝ }
+    requires { ⌜ constant ≤ 4 ⌝ }
+    ensures { λ r. ⌜ r ≡ frequencyUnits (gain (o .0) n constant) ⌝ }
+{
+    let d = gain_divisor(constant);
+    Frequency(o.0 as i32 * (n as i32) / d)
+}
+
+// A frequency and a gain, kept in the frequency's range.
+pub(crate) fn clamped_sum(f: Frequency, g: Frequency) -> Frequency
+    requires { ⌜ atMost greatestFrequency (f .0) ≡ true ⌝ }
+    requires { ⌜ atMost 131070976 (g .0) ≡ true ⌝ }
+    ensures { λ r. ⌜ r ≡ frequencyUnits (clamp (f .0 +ℤ g .0)) ⌝ }
+{
+    let z = f.0 + g.0;
+    if z < -1677721600 {
+        return Frequency(-1677721600);
+    }
+    if 1677721600 < z {
+        return Frequency(1677721600);
+    }
+    Frequency(z)
+}

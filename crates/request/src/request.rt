@@ -1,0 +1,51 @@
+ghost use mathlib.Core.Path.{_≡_};
+ghost use Rattle.request.specs.Request.{requestOf};
+use crate::effects::requested_of;
+use crate::refusal::refusal_of;
+use crate::units::AskedFrequency;
+use crate::units::OffsetMicros;
+use clock::outcome::Outcome;
+use clock::state::Clock;
+use clock::units::AskedMicros;
+
+// The bits of a request's mode, one for each field that it can select.
+pub const ADJ_OFFSET: u64 = 1;
+
+pub const ADJ_FREQUENCY: u64 = 2;
+
+pub const ADJ_MAXERROR: u64 = 4;
+
+pub const ADJ_ESTERROR: u64 = 8;
+
+pub const ADJ_STATUS: u64 = 16;
+
+pub const ADJ_CONSTANT: u64 = 32;
+
+// The mode says which fields are selected; the others are not looked at.
+pub struct Request {
+    pub mode: u64,
+    pub offset: OffsetMicros,
+    pub frequency: AskedFrequency,
+    pub maxerror: AskedMicros,
+    pub esterror: AskedMicros,
+    pub status: u64,
+    pub constant: u64,
+}
+
+// The clock with a request carried out, or refused whole.
+pub fn adjust(c: Clock, r: Request) -> Outcome
+    ensures { λ q. ⌜ q ≡ requestOf c r ⌝ }
+{
+    let n = refusal_of(c, r);
+    if n != 0 {
+        return Outcome {
+            refusal: n,
+            clock: c,
+        };
+    }
+    let next = requested_of(c, r);
+    Outcome {
+        refusal: 0,
+        clock: next,
+    }
+}
