@@ -2,3 +2,4 @@ pub mod Ok
 pub mod RollLaws
 pub mod TickLaws
 pub mod TickCases
+pub mod SettingCases

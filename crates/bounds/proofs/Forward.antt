@@ -1,0 +1,78 @@
+-- The third bound: an accepted tick adds at least 3,905 us, and no other call but a setting moves the time.
+use mathlib.Core.Path.{_≡_, refl, sym, _∙_}
+use mathlib.Core.Bool.{Bool, true, false, _&&_, _||_, not, cond, false≢true, true≢false}
+use mathlib.Core.List.{List, [], _∷_}
+use Prim.Native.Nat.{ℕ, _+_, _-_, _*_, _≤_, _<_}
+use native.Mathlib.Omega.{arith}
+use Rattle.integers.proofs.Ranges.{and-true}
+use Rattle.clock.specs.Rollover.{rolledOver, inserts, leapSeconds}
+use Rattle.clock.specs.Tick.{tickOf, microsGrown}
+use Rattle.clock.specs.Setting.{settingOf}
+use Rattle.clock.specs.declared.state.Clock.{Clock}
+use Rattle.clock.specs.declared.units.AskedMicros.{AskedMicros}
+use Rattle.clock.proofs.Ok.{Ok}
+use Rattle.clock.proofs.RollLaws.{LeapCase, ins, del, none, leapCase}
+use Rattle.clock.proofs.SettingCases.{SettingCase, refused, done, settingCase}
+use Rattle.clock.proofs.TickCases.{TickCase, out, last, plain, rolls, tickCase}
+use Rattle.clock.proofs.TickLaws.{grown-eq, carry-parts}
+use Rattle.request.specs.Request.{requested, requestOf}
+use Rattle.request.specs.declared.request.Request.{Request}
+use Rattle.request.proofs.RequestCases as req
+use Rattle.event.specs.declared.event.Event.{Event}
+use Rattle.event.specs.declared.event.Event.the-variants as call
+use Rattle.bounds.specs.Calls.{next, after, ticks, sets, insertsSecond, ticksAmong, unbroken}
+use Rattle.bounds.specs.Calls as calls
+use Rattle.bounds.specs.Book.{Book, entered}
+use Rattle.bounds.proofs.Exact.{told, Inv, step-inv, not-zero}
+
+-- whether a call breaks the stretch between two readings
+abbrev breaks : Clock → Event → Bool
+breaks c e = sets c e || (calls.rolls c e && insertsSecond c)
+
+-- with no inserted second, a rollover does not lose one
+leap-least : (status s : ℕ) → LeapCase status s → inserts status s ≡ false → s ≤ leapSeconds status s
+leap-least status s (ins e) h = absurd (true≢false (sym e ∙ h))
+leap-least status s (del e f) h = simp (e, f) (omega arith)
+leap-least status s (none e f) h = simp (e, f) (omega arith)
+
+module _ (c : Clock) (k : Ok c) where
+  -- 3,905 us at the least
+  grown-least : c .micros .0 + 3905 ≤ microsGrown c
+  grown-least = omega (arith, grown-eq c k, carry-parts c k)
+
+  tick-forward : TickCase c → breaks c call.Tick ≡ false → told c + 3905 * cond (ticks c call.Tick) 1 0 ≤ told (tickOf c .clock)
+  unfolding rolledOver
+  tick-forward (out t e) h = simp e (omega arith)
+  tick-forward (last k l e) h = simp e (omega arith)
+  tick-forward (plain k t l e) h = simp e (omega (arith, grown-least))
+  tick-forward (rolls k t l s e) h =
+      let i : inserts (c .status) (c .seconds + 1) ≡ false = simp (e, t) at h in
+      simp e (omega (arith, grown-least, leap-least (c .status) (c .seconds + 1) (leapCase (c .status) (c .seconds + 1)) i))
+
+  set-forward : (s : ℕ) (u : AskedMicros) → SettingCase c s u → breaks c (call.Setting s u) ≡ false → told c + 3905 * 0 ≤ told (settingOf c s u .clock)
+  set-forward s u (refused n e p) h = simp e (omega arith)
+  set-forward s u (done o e) h = absurd (true≢false (simp e at h))
+
+  request-forward : (r : Request) → req.RequestCase c r → told c + 3905 * 0 ≤ told (requestOf c r .clock)
+  unfolding requested
+  request-forward r (req.refused n e p) = simp e (omega arith)
+  request-forward r (req.done a e) = simp e (omega arith)
+
+  step-forward : (e : Event) → breaks c e ≡ false → told c + 3905 * cond (ticks c e) 1 0 ≤ told (next c e)
+  step-forward call.Tick h = tick-forward (tickCase c) h
+  step-forward (call.Setting s u) h = set-forward s u (settingCase c s u) h
+  step-forward (call.Request r) h = request-forward r (req.requestCase c r)
+  step-forward call.Reading h = omega arith
+
+not-true' : (b : Bool) → not b ≡ true → b ≡ false
+not-true' true e = absurd (false≢true e)
+not-true' false e = refl
+
+pub forward : (c : Clock) (b : Book) (es : List Event) → Inv c b → unbroken c es ≡ true → told c + 3905 * ticksAmong c es ≤ told (after c es)
+unfolding after unbroken ticksAmong
+forward c b [] i h = omega arith
+forward c b (e ∷ es) i h =
+    let p = and-true (not (breaks c e)) (unbroken (next c e) es) h in
+    let one = step-forward c (i .range) e (not-true' (breaks c e) (p .0)) in
+    let rest = forward (next c e) (entered c e b) es (step-inv c b i e) (p .1) in
+    omega (arith, one, rest)

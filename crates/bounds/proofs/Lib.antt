@@ -1,0 +1,5 @@
+pub mod Runs
+pub mod Exact
+pub mod Moved
+pub mod Forward
+pub mod Theorem

@@ -1,0 +1,196 @@
+-- The second bound: from one rollover to the next there are 255, 256 or 257 ticks, and all shares of one offset have its sign, so that
+-- what an offset has moved the clock is within 1/256 of what has been taken off it.
+use mathlib.Core.Path.{_≡_, refl}
+use mathlib.Core.Bool.{Bool, true, false, cond}
+use mathlib.Core.List.{List, [], _∷_}
+use Prim.Native.Nat.{ℕ, _+_, _-_, _*_, _≤_, _<_}
+use native.Mathlib.Omega.{arith}
+use native.Mathlib.Nat.{mul-le-mul-right}
+use lib.IntN.{ℤ, pos, natAbs, _+ℤ_, _-ℤ_, _*ℤ_}
+use Rattle.integers.proofs.Parts.{posPart, negPart, one-part, abs-parts}
+use Rattle.integers.proofs.Linear.{Diff, self, lit, add, sub, times}
+use Rattle.clock.specs.State.{freshClock}
+use Rattle.clock.specs.Rollover.{rolledOver, share, offsetLeft}
+use Rattle.clock.specs.Tick.{tickOf, advanced, microsGrown, phaseLeft}
+use Rattle.clock.specs.Setting.{settingOf}
+use Rattle.clock.specs.declared.state.Clock.{Clock}
+use Rattle.clock.specs.declared.units.AskedMicros.{AskedMicros}
+use Rattle.clock.proofs.RollLaws.{rest-posPart, rest-negPart}
+use Rattle.clock.proofs.SettingCases.{SettingCase, refused, done, settingCase}
+use Rattle.clock.proofs.TickCases.{TickCase, out, last, plain, rolls, tickCase}
+use Rattle.clock.proofs.TickLaws.{grown-eq, grown-most, left-parts}
+use Rattle.request.specs.Request.{selectsOffset, requested, requestOf}
+use Rattle.request.specs.declared.request.Request.{Request}
+use Rattle.request.proofs.RequestCases as req
+use Rattle.event.specs.declared.event.Event.{Event}
+use Rattle.event.specs.declared.event.Event.the-variants as call
+use Rattle.bounds.specs.Calls.{next, after}
+use Rattle.bounds.specs.Book.{Book, emptyBook, tickEntered, offsetEntered, entered, kept}
+use Rattle.bounds.proofs.Exact.{Inv, left-diff, step-inv, not-zero}
+
+-- The time since the last rollover after j ticks: a tick takes at least 3,906 us with the least adjustment, and at most 3,906 us with the
+-- greatest (2^-28 us).
+pub record Count (us : ℕ) (p : ℤ) (j : ℕ) : Type 0 where
+  pub low : j * 1048340071424 + negPart p ≤ us * 268435456 + posPart p + 268435456
+  pub high : us * 268435456 + posPart p ≤ 1049045762048 + j * 1048811928576 + negPart p
+
+module _ (c : Clock) (b : Book) (i : Inv c b) (j : ℕ) where
+  count-step : Count (c .micros .0) (c .phase .0) j → Count (microsGrown c) (phaseLeft c) (j + 1)
+  count-step h =
+      record {
+        low = omega (arith, left-diff c b i .eq, grown-eq c (i .range), i .range .adjustment, h);
+        high = omega (arith, left-diff c b i .eq, grown-eq c (i .range), i .range .adjustment, h);
+      }
+
+  ticks-least : Count (c .micros .0) (c .phase .0) j → 1000000 ≤ microsGrown c → 255 ≤ j + 1
+  ticks-least h l = omega (arith, count-step h .high, left-parts c (i .range))
+
+  ticks-most : Count (c .micros .0) (c .phase .0) j → j + 1 ≤ 257
+  ticks-most h = omega (arith, h .low, i .range .phase, i .range .micros)
+
+count-start : (c : Clock) (b : Book) → Inv c b → 1000000 ≤ microsGrown c → Count (microsGrown c - 1000000) (phaseLeft c) 0
+count-start c b i l =
+    record {
+      low = omega (arith, left-parts c (i .range));
+      high = omega (arith, left-parts c (i .range), grown-most c (i .range));
+    }
+
+-- One sign of an offset: a asked, l left, o the own share, m moved after j ticks since the last rollover; `old` is what earlier shares took.
+pub record Side (a l o j m : ℕ) : Type 0 where
+  pub old : ℕ
+  pub whole : old + o + l ≡ a
+  pub high : m ≤ 257 * old + j * o
+  pub low : 255 * old + j * o ≤ m
+
+side-start : (a : ℕ) → Side a a 0 0 0
+side-start a = record { old = 0; whole = omega arith; high = omega arith; low = omega arith }
+
+side-tick : {a l o j m : ℕ} → Side a l o j m → Side a l o (j + 1) (m + o)
+side-tick s = record { old = s .old; whole = s .whole; high = omega (arith, s .high); low = omega (arith, s .low) }
+
+-- the own share was in force for 255 to 257 ticks, or is 0
+record Ticks (o j : ℕ) : Type 0 where
+  pub least : 255 * o ≤ (j + 1) * o
+  pub most : (j + 1) * o ≤ 257 * o
+
+side-paid : {a l o j m : ℕ} → Side a l o j m → Ticks o j → (m + o + 257 * l ≤ 257 * a) × (255 * a ≤ m + o + 255 * l)
+side-paid s t = omega (arith, s .whole, s .high, s .low, t .least, t .most)
+
+side-roll : {a l o j m : ℕ} (l' o' : ℕ) → o' + l' ≡ l → Ticks o j → Side a l o j m → Side a l' o' 0 (m + o)
+side-roll {o = o} l' o' e t s =
+    record {
+      old = s .old + o;
+      whole = omega (arith, s .whole);
+      high = omega (arith, s .high, t .most);
+      low = omega (arith, s .low, t .least);
+    }
+
+-- no own share since the last offset request or setting, or a count of ticks since the last rollover
+pub data Pace (us : ℕ) (p own : ℤ) (j : ℕ) : Type 0 where
+  idle : posPart own ≡ 0 → negPart own ≡ 0 → Pace us p own j
+  counted : Count us p j → Pace us p own j
+
+pub record Paid (c : Clock) (b : Book) : Type 0 where
+  pub j : ℕ
+  pub mP : ℕ
+  pub mN : ℕ
+  pub moved : Diff (b .moved) mP mN
+  pub P : Side (posPart (b .asked)) (posPart (c .offset .0)) (posPart (b .own)) j mP
+  pub N : Side (negPart (b .asked)) (negPart (c .offset .0)) (negPart (b .own)) j mN
+  pub pace : Pace (c .micros .0) (c .phase .0) (b .own) j
+
+idle-ticks : (o j : ℕ) → o ≡ 0 → Ticks o j
+idle-ticks o j e = record { least = rw e (omega arith); most = rw e (omega arith) }
+
+module _ (c : Clock) (b : Book) (i : Inv c b) where
+  counted-ticks : (o j : ℕ) → Count (c .micros .0) (c .phase .0) j → 1000000 ≤ microsGrown c → Ticks o j
+  counted-ticks o j h l = record { least = mul-le-mul-right o (ticks-least c b i j h l); most = mul-le-mul-right o (ticks-most c b i j h) }
+
+  ticks-P : (j : ℕ) → Pace (c .micros .0) (c .phase .0) (b .own) j → 1000000 ≤ microsGrown c → Ticks (posPart (b .own)) j
+  ticks-P j (idle p n) l = idle-ticks _ j p
+  ticks-P j (counted h) l = counted-ticks _ j h l
+
+  ticks-N : (j : ℕ) → Pace (c .micros .0) (c .phase .0) (b .own) j → 1000000 ≤ microsGrown c → Ticks (negPart (b .own)) j
+  ticks-N j (idle p n) l = idle-ticks _ j n
+  ticks-N j (counted h) l = counted-ticks _ j h l
+
+  pace-tick : (j : ℕ) → Pace (c .micros .0) (c .phase .0) (b .own) j → Pace (microsGrown c) (phaseLeft c) (b .own) (j + 1)
+  pace-tick j (idle p n) = idle p n
+  pace-tick j (counted h) = counted (count-step c b i j h)
+
+  tick-paid : TickCase c → Paid c b → Paid (tickOf c .clock) (entered c call.Tick b)
+  unfolding rolledOver
+  tick-paid (out t e) p = simp e p
+  tick-paid (last k l e) p = simp e p
+  tick-paid (plain k t l e) p =
+      simp (e, t)
+      (record {
+        j = p .j + 1;
+        mP = p .mP + posPart (b .own);
+        mN = p .mN + negPart (b .own);
+        moved = add (p .moved) (self (b .own));
+        P = side-tick (p .P);
+        N = side-tick (p .N);
+        pace = pace-tick (p .j) (p .pace);
+      })
+  tick-paid (rolls k t l s e) p =
+      simp (e, t)
+      (record {
+        j = 0;
+        mP = p .mP + posPart (b .own);
+        mN = p .mN + negPart (b .own);
+        moved = add (p .moved) (self (b .own));
+        P = side-roll (posPart (offsetLeft c)) (posPart (share c)) (rest-posPart c k) (ticks-P (p .j) (p .pace) l) (p .P);
+        N = side-roll (negPart (offsetLeft c)) (negPart (share c)) (rest-negPart c k) (ticks-N (p .j) (p .pace) l) (p .N);
+        pace = counted (count-start c b i l);
+      })
+
+  set-paid : (s : ℕ) (u : AskedMicros) → SettingCase c s u → Paid c b → Paid (settingOf c s u .clock) (entered c (call.Setting s u) b)
+  set-paid s u (refused n e h) p = simp (e, not-zero n h) p
+  set-paid s u (done k e) p = simp e (record { j = 0; mP = 0; mN = 0; moved = lit 0; P = side-start 0; N = side-start 0; pace = idle refl refl })
+
+  offset-paid : (r : Request) (o : Bool) → selectsOffset r ≡ o → Paid c b → Paid (requested c r) (cond o (offsetEntered r b) b)
+  unfolding requested
+  offset-paid r true t p =
+      simp t
+      (record {
+        j = 0;
+        mP = 0;
+        mN = 0;
+        moved = lit 0;
+        P = side-start (posPart (r .offset .0 *ℤ pos 16384));
+        N = side-start (negPart (r .offset .0 *ℤ pos 16384));
+        pace = idle refl refl;
+      })
+  offset-paid r false t p = simp t (record { j = p .j; mP = p .mP; mN = p .mN; moved = p .moved; P = p .P; N = p .N; pace = p .pace })
+
+  request-paid : (r : Request) → req.RequestCase c r → Paid c b → Paid (requestOf c r .clock) (entered c (call.Request r) b)
+  request-paid r (req.refused n e h) p = simp (e, not-zero n h) p
+  request-paid r (req.done a e) p = simp e (offset-paid r (selectsOffset r) refl p)
+
+  step-paid : (e : Event) → Paid c b → Paid (next c e) (entered c e b)
+  step-paid call.Tick p = tick-paid (tickCase c) p
+  step-paid (call.Setting s u) p = set-paid s u (settingCase c s u) p
+  step-paid (call.Request r) p = request-paid r (req.requestCase c r) p
+  step-paid call.Reading p = p
+
+  -- at a rollover
+  pub paid-bound : Paid c b → 1000000 ≤ microsGrown c
+      → natAbs ((b .moved +ℤ b .own) -ℤ pos 256 *ℤ (b .asked -ℤ c .offset .0)) ≤ natAbs (b .asked -ℤ c .offset .0)
+  paid-bound p l =
+      let m = b .moved +ℤ b .own in
+      let t = b .asked -ℤ c .offset .0 in
+      let z = m -ℤ pos 256 *ℤ t in
+      let dt = sub (self (b .asked)) (self (c .offset .0)) in
+      let dz = sub (add (p .moved) (self (b .own))) (times 256 dt) in
+      let u = side-paid (p .P) (ticks-P (p .j) (p .pace) l) in
+      let v = side-paid (p .N) (ticks-N (p .j) (p .pace) l) in
+      omega (arith, abs-parts z, abs-parts t, dz .eq, dt .eq, u, v, p .P .whole, p .N .whole, one-part z, one-part t, one-part (b .asked))
+
+pub run-paid : (c : Clock) (b : Book) (es : List Event) → Inv c b → Paid c b → Paid (after c es) (kept c b es)
+unfolding after kept
+run-paid c b [] i p = p
+run-paid c b (e ∷ es) i p = run-paid (next c e) (entered c e b) es (step-inv c b i e) (step-paid c b i e p)
+
+pub fresh-paid : Paid freshClock emptyBook
+fresh-paid = record { j = 0; mP = 0; mN = 0; moved = lit 0; P = side-start 0; N = side-start 0; pace = idle refl refl }

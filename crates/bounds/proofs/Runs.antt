@@ -1,0 +1,45 @@
+-- Lists of calls taken apart, and what every call of a list leaves in range.
+use mathlib.Core.Path.{_≡_, refl}
+use mathlib.Core.List.{List, [], _∷_, _++_}
+use Prim.Native.Nat.{ℕ}
+use native.Mathlib.Omega.{arith}
+use Rattle.clock.specs.State.{inRange, freshClock}
+use Rattle.clock.specs.Reading.{readingOf, readingRefusal, shown}
+use Rattle.clock.specs.declared.state.Clock.{Clock}
+use Rattle.clock.specs.declared.reading.Told.{Told}
+use Rattle.clock.proofs.Ok.{Ok, ok-back}
+use Rattle.event.specs.declared.event.Event.{Event}
+use Rattle.bounds.specs.Calls.{next, after}
+use Rattle.bounds.specs.Book.{Book, entered, kept}
+
+pub after-append : (c : Clock) (xs ys : List Event) → after c (xs ++ ys) ≡ after (after c xs) ys
+unfolding after
+after-append c [] ys = refl
+after-append c (e ∷ xs) ys = after-append (next c e) xs ys
+
+pub kept-append : (c : Clock) (b : Book) (xs ys : List Event) → kept c b (xs ++ ys) ≡ kept (after c xs) (kept c b xs) ys
+unfolding after kept
+kept-append c b [] ys = refl
+kept-append c b (e ∷ xs) ys = kept-append (next c e) (entered c e b) xs ys
+
+pub fresh-ok : Ok freshClock
+fresh-ok = record {
+  seconds = omega arith;
+  micros = omega arith;
+  phase = omega arith;
+  offset = omega arith;
+  frequency = omega arith;
+  adjustment = omega arith;
+  constant = omega arith;
+  updated = omega arith;
+  reftime = omega arith;
+  update = refl;
+  maxerror = omega arith;
+  esterror = omega arith;
+  status = omega arith;
+}
+
+-- a clock in range is read
+pub read-ok : (c : Clock) → Ok c → readingOf c ≡ record { refusal = 0; reading = shown c }
+unfolding readingOf readingRefusal
+read-ok c k = simp (ok-back c k)

@@ -1,0 +1,71 @@
+-- A list of calls: "Each call gets the clock as the one before left it. Only accepted calls count below."
+use Prim.Native.Nat.{ℕ, _+_}
+use mathlib.Core.Bool.{Bool, true, false, _&&_, _||_, not, cond}
+use mathlib.Core.List.{List, [], _∷_}
+use lib.Dec.{eqb}
+use Rattle.clock.specs.State.{freshClock}
+use Rattle.clock.specs.Rollover.{inserts, deletes}
+use Rattle.clock.specs.Tick.{rollsOver}
+use Rattle.clock.specs.declared.state.Clock.{Clock}
+use Rattle.request.specs.Request.{selectsOffset}
+use Rattle.event.specs.Event.{stepOf}
+use Rattle.event.specs.declared.event.Event.{Event}
+use Rattle.event.specs.declared.event.Event.the-variants.{Tick, Setting, Request, Reading}
+
+-- the clock that a call hands back
+abbrev pub next : Clock → Event → Clock
+next c e = stepOf c e .clock
+
+-- the clock after some calls, the first of which gets c
+unfoldable pub after : Clock → List Event → Clock
+after c [] = c
+after c (e ∷ es) = after (next c e) es
+
+-- the clock after a list of calls "on a clock that starts fresh"
+abbrev pub clockAfter : List Event → Clock
+clockAfter calls = after freshClock calls
+
+-- whether c accepts the call
+abbrev pub accepted : Clock → Event → Bool
+accepted c e = eqb (stepOf c e .refusal) 0
+
+abbrev pub isTick : Event → Bool
+isTick Tick = true
+isTick (Setting s u) = false
+isTick (Request r) = false
+isTick Reading = false
+
+abbrev pub isSetting : Event → Bool
+isSetting Tick = false
+isSetting (Setting s u) = true
+isSetting (Request r) = false
+isSetting Reading = false
+
+-- an accepted tick
+abbrev pub ticks : Clock → Event → Bool
+ticks c e = isTick e && accepted c e
+
+-- an accepted setting
+abbrev pub sets : Clock → Event → Bool
+sets c e = isSetting e && accepted c e
+
+-- an accepted tick that rolls over
+abbrev pub rolls : Clock → Event → Bool
+rolls c e = ticks c e && rollsOver c
+
+-- its rollover inserts a second, or deletes one: by the status before, and the second that it reaches
+abbrev pub insertsSecond : Clock → Bool
+insertsSecond c = inserts (c .status) (c .seconds + 1)
+
+abbrev pub deletesSecond : Clock → Bool
+deletesSecond c = deletes (c .status) (c .seconds + 1)
+
+-- how many accepted ticks are among the calls, the first of which gets c
+unfoldable pub ticksAmong : Clock → List Event → ℕ
+ticksAmong c [] = 0
+ticksAmong c (e ∷ es) = cond (ticks c e) 1 0 + ticksAmong (next c e) es
+
+-- whether there is "neither a setting nor an inserted second" among the calls, the first of which gets c
+unfoldable pub unbroken : Clock → List Event → Bool
+unbroken c [] = true
+unbroken c (e ∷ es) = not (sets c e || (rolls c e && insertsSecond c)) && unbroken (next c e) es

@@ -1,0 +1,49 @@
+-- What a setting answers, by its two cases.
+use mathlib.Core.Path.{_≡_, refl}
+use mathlib.Core.Bool.{Bool, true, false, cond}
+use Prim.Native.Nat.{ℕ, _≤_, _<_}
+use native.Mathlib.Omega.{arith}
+use lib.Dec.{leb, lit<}
+use lib.IntN.{pos}
+use borrow.Author.Tests.{leb-true}
+use Rattle.integers.proofs.Ranges.{and-true}
+use Rattle.clock.specs.State.{inRange, lastSecond}
+use Rattle.clock.specs.Setting.{setTo, settable, settingRefusal, settingOf}
+use Rattle.clock.specs.declared.state.Clock.{Clock}
+use Rattle.clock.specs.declared.units.AskedMicros.{AskedMicros}
+use Rattle.clock.specs.declared.outcome.Outcome.{Outcome}
+use Rattle.clock.proofs.Ok.{Ok, ok}
+use Rattle.clock.proofs.RollLaws.{adjustment-parts}
+
+pub data SettingCase (c : Clock) (s : ℕ) (u : AskedMicros) : Type 0 where
+  refused : (n : ℕ) → settingOf c s u ≡ record { refusal = n; clock = c } → 0 < n → SettingCase c s u
+  done : Ok (setTo c s u) → settingOf c s u ≡ record { refusal = 0; clock = setTo c s u } → SettingCase c s u
+
+pub set-ok : (c : Clock) (s : ℕ) (u : AskedMicros) → Ok c → settable s u ≡ true → Ok (setTo c s u)
+set-ok c s u k h =
+    let a = and-true (leb s lastSecond) (leb (u .0) 999999) h in
+    record {
+      seconds = leb-true _ _ (a .0);
+      micros = leb-true _ _ (a .1);
+      phase = omega arith;
+      offset = omega arith;
+      frequency = k .frequency;
+      adjustment = adjustment-parts (pos 0) (c .frequency .0) (omega arith) (k .frequency);
+      constant = k .constant;
+      updated = omega arith;
+      reftime = omega arith;
+      update = refl;
+      maxerror = omega arith;
+      esterror = omega arith;
+      status = omega arith;
+    }
+
+module _ (c : Clock) (s : ℕ) (u : AskedMicros) where
+  by-tests : (a b : Bool) → inRange c ≡ a → settable s u ≡ b → SettingCase c s u
+  unfolding settingOf settingRefusal
+  by-tests true true t h = done (set-ok c s u (ok c t) h) (simp (t, h))
+  by-tests true false t h = refused 2 (simp (t, h)) (lit< tt)
+  by-tests false b t h = refused 1 (simp t) (lit< tt)
+
+  pub settingCase : SettingCase c s u
+  settingCase = by-tests (inRange c) (settable s u) refl refl
