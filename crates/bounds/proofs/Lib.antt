@@ -3,3 +3,4 @@ pub mod Exact
 pub mod Moved
 pub mod Forward
 pub mod Theorem
+pub mod Table

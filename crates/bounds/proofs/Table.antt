@@ -1,0 +1,12 @@
+-- Every marked case holds: computed.
+use mathlib.Core.Path.{refl}
+use Rattle.clock.specs.State.{inRange}
+use Rattle.clock.specs.Rollover.{rolledOver}
+use Rattle.clock.specs.Tick.{ticked, tickRefusal, tickOf}
+use Rattle.clock.specs.Setting.{settingRefusal, settingOf}
+use Rattle.request.specs.Request.{requestRefusal, requested, requestOf}
+use Rattle.bounds.specs.Cases.{MarkedCases}
+
+pub marked-cases : MarkedCases
+unfolding inRange rolledOver ticked tickRefusal tickOf settingRefusal settingOf requestRefusal requested requestOf
+marked-cases = refl
