@@ -1,6 +1,6 @@
 -- The first bound: the clock's time with its phase stays within 15/2^32 us a tick of the exact time.
 use mathlib.Core.Path.{_≡_, refl, sym, subst}
-use mathlib.Core.Bool.{Bool, true, false, _&&_, cond}
+use mathlib.Core.Bool.{Bool, true, false, cond}
 use mathlib.Core.List.{List, [], _∷_}
 use Prim.Native.Nat.{ℕ, _+_, _-_, _*_, _/_, _≤_, _<_}
 use native.Mathlib.Omega.{arith}
@@ -27,7 +27,7 @@ use Rattle.request.proofs.RequestCases as req
 use Rattle.event.specs.declared.event.Event.{Event}
 use Rattle.event.specs.declared.event.Event.the-variants as call
 use Rattle.bounds.specs.Calls.{next, after}
-use Rattle.bounds.specs.Book.{Book, emptyBook, tickEntered, leapEntered, rolloverEntered, settingEntered, offsetEntered, entered, kept}
+use Rattle.bounds.specs.Book.{Book, emptyBook, tickEntered, leapEntered, rolloverEntered, requestEntered, entered, kept}
 use Rattle.bounds.proofs.Runs.{fresh-ok}
 
 -- what a reading of the clock tells (us)
@@ -124,15 +124,15 @@ module _ (c : Clock) (b : Book) (i : Inv c b) where
   set-inv s u (refused n e h) = simp (e, not-zero n h) i
   set-inv s u (done k e) = simp e (record { range = k; rate = refl; near = record { high = omega arith; low = omega arith } })
 
-  -- an offset request leaves time, share and frequency in force
-  offset-inv : (r : Request) (o : Bool) → Ok (requested c r) → Inv (requested c r) (cond o (offsetEntered r b) b)
+  -- a request leaves time, share and frequency in force
+  requested-inv : (r : Request) (o : Bool) → selectsOffset r ≡ o → Ok (requested c r) → Inv (requested c r) (requestEntered r b)
   unfolding requested
-  offset-inv r true k = record { range = k; rate = i .rate; near = i .near }
-  offset-inv r false k = record { range = k; rate = i .rate; near = i .near }
+  requested-inv r true t k = simp t (record { range = simp t at k; rate = i .rate; near = i .near })
+  requested-inv r false t k = simp t (record { range = simp t at k; rate = i .rate; near = i .near })
 
   request-inv : (r : Request) → req.RequestCase c r → Inv (requestOf c r .clock) (entered c (call.Request r) b)
   request-inv r (req.refused n e h) = simp (e, not-zero n h) i
-  request-inv r (req.done a e) = simp e (offset-inv r (selectsOffset r) (requested-ok c r a))
+  request-inv r (req.done a e) = simp e (requested-inv r (selectsOffset r) refl (requested-ok c r a))
 
   pub step-inv : (e : Event) → Inv (next c e) (entered c e b)
   step-inv call.Tick = tick-inv (tickCase c)

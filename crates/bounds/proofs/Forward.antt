@@ -23,6 +23,7 @@ use Rattle.event.specs.declared.event.Event.the-variants as call
 use Rattle.bounds.specs.Calls.{next, after, ticks, sets, insertsSecond, ticksAmong, unbroken}
 use Rattle.bounds.specs.Calls as calls
 use Rattle.bounds.specs.Book.{Book, entered}
+use Rattle.bounds.specs.Demand.{leastTick}
 use Rattle.bounds.proofs.Exact.{told, Inv, step-inv, not-zero}
 
 -- whether a call breaks the stretch between two readings
@@ -36,11 +37,11 @@ leap-least status s (del e f) h = simp (e, f) (omega arith)
 leap-least status s (none e f) h = simp (e, f) (omega arith)
 
 module _ (c : Clock) (k : Ok c) where
-  -- 3,905 us at the least
-  grown-least : c .micros .0 + 3905 ≤ microsGrown c
+  -- the least that a tick adds
+  grown-least : c .micros .0 + leastTick ≤ microsGrown c
   grown-least = omega (arith, grown-eq c k, carry-parts c k)
 
-  tick-forward : TickCase c → breaks c call.Tick ≡ false → told c + 3905 * cond (ticks c call.Tick) 1 0 ≤ told (tickOf c .clock)
+  tick-forward : TickCase c → breaks c call.Tick ≡ false → told c + leastTick * cond (ticks c call.Tick) 1 0 ≤ told (tickOf c .clock)
   unfolding rolledOver
   tick-forward (out t e) h = simp e (omega arith)
   tick-forward (last k l e) h = simp e (omega arith)
@@ -49,16 +50,16 @@ module _ (c : Clock) (k : Ok c) where
       let i : inserts (c .status) (c .seconds + 1) ≡ false = simp (e, t) at h in
       simp e (omega (arith, grown-least, leap-least (c .status) (c .seconds + 1) (leapCase (c .status) (c .seconds + 1)) i))
 
-  set-forward : (s : ℕ) (u : AskedMicros) → SettingCase c s u → breaks c (call.Setting s u) ≡ false → told c + 3905 * 0 ≤ told (settingOf c s u .clock)
+  set-forward : (s : ℕ) (u : AskedMicros) → SettingCase c s u → breaks c (call.Setting s u) ≡ false → told c + leastTick * 0 ≤ told (settingOf c s u .clock)
   set-forward s u (refused n e p) h = simp e (omega arith)
   set-forward s u (done o e) h = absurd (true≢false (simp e at h))
 
-  request-forward : (r : Request) → req.RequestCase c r → told c + 3905 * 0 ≤ told (requestOf c r .clock)
+  request-forward : (r : Request) → req.RequestCase c r → told c + leastTick * 0 ≤ told (requestOf c r .clock)
   unfolding requested
   request-forward r (req.refused n e p) = simp e (omega arith)
   request-forward r (req.done a e) = simp e (omega arith)
 
-  step-forward : (e : Event) → breaks c e ≡ false → told c + 3905 * cond (ticks c e) 1 0 ≤ told (next c e)
+  step-forward : (e : Event) → breaks c e ≡ false → told c + leastTick * cond (ticks c e) 1 0 ≤ told (next c e)
   step-forward call.Tick h = tick-forward (tickCase c) h
   step-forward (call.Setting s u) h = set-forward s u (settingCase c s u) h
   step-forward (call.Request r) h = request-forward r (req.requestCase c r)
@@ -68,7 +69,7 @@ not-true' : (b : Bool) → not b ≡ true → b ≡ false
 not-true' true e = absurd (false≢true e)
 not-true' false e = refl
 
-pub forward : (c : Clock) (b : Book) (es : List Event) → Inv c b → unbroken c es ≡ true → told c + 3905 * ticksAmong c es ≤ told (after c es)
+pub forward : (c : Clock) (b : Book) (es : List Event) → Inv c b → unbroken c es ≡ true → told c + leastTick * ticksAmong c es ≤ told (after c es)
 unfolding after unbroken ticksAmong
 forward c b [] i h = omega arith
 forward c b (e ∷ es) i h =

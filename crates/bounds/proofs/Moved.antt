@@ -25,7 +25,8 @@ use Rattle.request.proofs.RequestCases as req
 use Rattle.event.specs.declared.event.Event.{Event}
 use Rattle.event.specs.declared.event.Event.the-variants as call
 use Rattle.bounds.specs.Calls.{next, after}
-use Rattle.bounds.specs.Book.{Book, emptyBook, tickEntered, offsetEntered, entered, kept}
+use Rattle.bounds.specs.Book.{Book, emptyBook, tickEntered, requestEntered, entered, kept}
+use Rattle.bounds.specs.Demand.{takenOff, MovedAsTaken}
 use Rattle.bounds.proofs.Exact.{Inv, left-diff, step-inv, not-zero}
 
 -- The time since the last rollover after j ticks: a tick takes at least 3,906 us with the least adjustment, and at most 3,906 us with the
@@ -149,9 +150,9 @@ module _ (c : Clock) (b : Book) (i : Inv c b) where
   set-paid s u (refused n e h) p = simp (e, not-zero n h) p
   set-paid s u (done k e) p = simp e (record { j = 0; mP = 0; mN = 0; moved = lit 0; P = side-start 0; N = side-start 0; pace = idle refl refl })
 
-  offset-paid : (r : Request) (o : Bool) → selectsOffset r ≡ o → Paid c b → Paid (requested c r) (cond o (offsetEntered r b) b)
+  requested-paid : (r : Request) (o : Bool) → selectsOffset r ≡ o → Paid c b → Paid (requested c r) (requestEntered r b)
   unfolding requested
-  offset-paid r true t p =
+  requested-paid r true t p =
       simp t
       (record {
         j = 0;
@@ -162,11 +163,11 @@ module _ (c : Clock) (b : Book) (i : Inv c b) where
         N = side-start (negPart (r .offset .0 *ℤ pos 16384));
         pace = idle refl refl;
       })
-  offset-paid r false t p = simp t (record { j = p .j; mP = p .mP; mN = p .mN; moved = p .moved; P = p .P; N = p .N; pace = p .pace })
+  requested-paid r false t p = simp t (record { j = p .j; mP = p .mP; mN = p .mN; moved = p .moved; P = p .P; N = p .N; pace = p .pace })
 
   request-paid : (r : Request) → req.RequestCase c r → Paid c b → Paid (requestOf c r .clock) (entered c (call.Request r) b)
   request-paid r (req.refused n e h) p = simp (e, not-zero n h) p
-  request-paid r (req.done a e) p = simp e (offset-paid r (selectsOffset r) refl p)
+  request-paid r (req.done a e) p = simp e (requested-paid r (selectsOffset r) refl p)
 
   step-paid : (e : Event) → Paid c b → Paid (next c e) (entered c e b)
   step-paid call.Tick p = tick-paid (tickCase c) p
@@ -176,11 +177,10 @@ module _ (c : Clock) (b : Book) (i : Inv c b) where
 
   -- at a rollover
   pub paid-bound : Paid c b → 1000000 ≤ microsGrown c
-      → natAbs ((b .moved +ℤ b .own) -ℤ pos 256 *ℤ (b .asked -ℤ c .offset .0)) ≤ natAbs (b .asked -ℤ c .offset .0)
+      → MovedAsTaken (b .moved +ℤ b .own) (takenOff c b)
   paid-bound p l =
-      let m = b .moved +ℤ b .own in
-      let t = b .asked -ℤ c .offset .0 in
-      let z = m -ℤ pos 256 *ℤ t in
+      let t = takenOff c b in
+      let z = (b .moved +ℤ b .own) -ℤ pos 256 *ℤ t in
       let dt = sub (self (b .asked)) (self (c .offset .0)) in
       let dz = sub (add (p .moved) (self (b .own))) (times 256 dt) in
       let u = side-paid (p .P) (ticks-P (p .j) (p .pace) l) in

@@ -17,7 +17,7 @@ use Rattle.event.specs.declared.event.Event.{Event}
 use Rattle.event.specs.declared.event.Event.the-variants.{Tick, Reading}
 use Rattle.bounds.specs.Calls.{after, clockAfter, accepted, rolls, ticksAmong, unbroken}
 use Rattle.bounds.specs.Book.{Book, emptyBook, kept, bookAfter}
-use Rattle.bounds.specs.Demand.{FirstBound, SecondBound, ThirdBound, Demand3}
+use Rattle.bounds.specs.Demand.{NearExact, FirstBound, SecondBound, ThirdBound, Demand3}
 use Rattle.bounds.proofs.Runs.{after-append, kept-append, read-ok}
 use Rattle.bounds.proofs.Exact.{told, total, Inv, run-inv, fresh-inv}
 use Rattle.bounds.proofs.Moved.{Paid, run-paid, fresh-paid, paid-bound}
@@ -30,7 +30,7 @@ paid : (calls : List Event) → Paid (clockAfter calls) (bookAfter calls)
 paid calls = run-paid freshClock emptyBook calls fresh-inv fresh-paid
 
 -- the clock's time without its phase
-near : (c : Clock) (b : Book) → Inv c b → natAbs (pos (4294967296 * told c) -ℤ b .exact) < 4294967296 + 16 * b .n
+near : (c : Clock) (b : Book) → Inv c b → NearExact (told c) b
 near c b i =
     let d = add (lit (4294967296 * told c)) (times 16 (self (c .phase .0))) in
     let z = pos (4294967296 * told c) -ℤ b .exact in

@@ -1,7 +1,7 @@
 -- "The book of demand 3": what a list of calls should have come to, by the calls alone. It runs the rules itself, from a fresh
 -- clock over the same list: `rules` below is the clock of that run, of which neither phase nor adjustment enters the book.
 use Prim.Native.Nat.{ℕ, _+_, _*_, _/_, _^_}
-use mathlib.Core.Bool.{Bool, _&&_, cond}
+use mathlib.Core.Bool.{Bool, cond}
 use mathlib.Core.List.{List, [], _∷_}
 use lib.IntN.{ℤ, pos, _+ℤ_, _-ℤ_, _*ℤ_}
 use Rattle.clock.specs.Units.{offsetUnitsPerMicro, microsPerSecond}
@@ -97,21 +97,17 @@ settingEntered rules s u =
 -- force stays."
 abbrev pub offsetEntered : Request → Book → Book
 offsetEntered r b =
-    record {
-      exact = b .exact;
-      n = b .n;
-      frequency = b .frequency;
-      share = b .share;
-      own = pos 0;
-      moved = pos 0;
-      asked = r .offset .0 *ℤ pos offsetUnitsPerMicro;
-    }
+    record { exact = b .exact; n = b .n; frequency = b .frequency; share = b .share; own = pos 0; moved = pos 0; asked = r .offset .0 *ℤ pos offsetUnitsPerMicro }
+
+-- an accepted request
+abbrev pub requestEntered : Request → Book → Book
+requestEntered r b = cond (selectsOffset r) (offsetEntered r b) b
 
 -- one call; "Other requests, readings, refused calls: nothing."
 abbrev pub entered : Clock → Event → Book → Book
 entered rules Tick b = cond (accepted rules Tick) (cond (rollsOver rules) (rolloverEntered rules (tickEntered b)) (tickEntered b)) b
 entered rules (Setting s u) b = cond (accepted rules (Setting s u)) (settingEntered rules s u) b
-entered rules (call.Request r) b = cond (accepted rules (call.Request r) && selectsOffset r) (offsetEntered r b) b
+entered rules (call.Request r) b = cond (accepted rules (call.Request r)) (requestEntered r b) b
 entered rules Reading b = b
 
 -- the book after some calls, the first of which the rules meet at the clock `rules`

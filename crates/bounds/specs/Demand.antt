@@ -11,7 +11,7 @@ use Rattle.event.specs.Event.{stepOf}
 use Rattle.event.specs.declared.event.Event.{Event}
 use Rattle.event.specs.declared.event.Event.the-variants.{Tick, Reading}
 use Rattle.bounds.specs.Calls.{clockAfter, rolls, ticksAmong, unbroken}
-use Rattle.bounds.specs.Book.{bookAfter, exactPerMicro}
+use Rattle.bounds.specs.Book.{Book, bookAfter, exactPerMicro}
 
 -- "A reading tells seconds x 1,000,000 + microseconds." (us)
 abbrev pub tells : shows.Reading → ℕ
@@ -21,35 +21,43 @@ tells r = r .seconds * microsPerSecond + r .micros .0
 abbrev pub toldAfter : List Event → ℕ
 toldAfter calls = tells (stepOf (clockAfter calls) Reading .reading)
 
--- "After every such list, with n ticks since the last setting, the reading is off the exact time by less than 1 us plus
--- n/2^28 us." In 2^-32 us: |2^32 T - exact| < 2^32 + 16 n. The reading is accepted.
+-- "the reading is off the exact time by less than 1 us plus n/2^28 us", in 2^-32 us: |2^32 T - exact| < 2^32 + 16 n
+abbrev pub NearExact : ℕ → Book → Type 0
+NearExact t b = natAbs (pos (exactPerMicro * t) -ℤ b .exact) < exactPerMicro + 16 * b .n
+
+-- "After every such list, with n ticks since the last setting, the reading is off the exact time by less than [..]": the reading of the
+-- clock after the list is accepted, and what it tells is near.
 pub record FirstBound (calls : List Event) : Type 0 where
   pub accepted : stepOf (clockAfter calls) Reading .refusal ≡ 0
-  pub near : natAbs (pos (exactPerMicro * toldAfter calls) -ℤ bookAfter calls .exact) < exactPerMicro + 16 * bookAfter calls .n
-
--- what the last offset request has moved the clock, a tick included that follows the calls (1/256 offset unit)
-abbrev pub movedAtTick : List Event → ℤ
-movedAtTick calls = bookAfter (calls ++ (Tick ∷ [])) .moved
+  pub near : NearExact (toldAfter calls) (bookAfter calls)
 
 -- "what has been taken off: asked less the offset left in the clock that this tick got" (offset units)
-abbrev pub takenOff : List Event → ℤ
-takenOff calls = bookAfter calls .asked -ℤ clockAfter calls .offset .0
+abbrev pub takenOff : Clock → Book → ℤ
+takenOff got b = b .asked -ℤ got .offset .0
 
--- "At every rollover, before the new share is taken, what the last offset request has moved the clock differs from what has been
--- taken off that offset by at most 1/256 of the size of the latter": |m - 256 t| ≤ |t|. After a setting both are 0, so that it
--- holds there too.
+-- moved (1/256 offset unit) "differs from what has been taken off [..] by at most 1/256 of the size of the latter": |m - 256 t| ≤ |t|
+abbrev pub MovedAsTaken : ℤ → ℤ → Type 0
+MovedAsTaken m t = natAbs (m -ℤ pos 256 *ℤ t) ≤ natAbs t
+
+-- "At every rollover, before the new share is taken, what the last offset request has moved the clock differs [..]": at each tick of the
+-- list that is accepted and rolls over, with what is moved then, this tick included. After a setting both are 0, so that it holds
+-- there too.
 abbrev pub SecondBound : List Event → Type 0
 SecondBound calls =
     (before later : List Event) → calls ≡ before ++ (Tick ∷ later) → rolls (clockAfter before) Tick ≡ true
-    → natAbs (movedAtTick before -ℤ pos 256 *ℤ takenOff before) ≤ natAbs (takenOff before)
+    → MovedAsTaken (bookAfter (before ++ (Tick ∷ [])) .moved) (takenOff (clockAfter before) (bookAfter before))
+
+-- the least that a tick moves the clock forward (us)
+abbrev pub leastTick : ℕ
+leastTick = 3905
 
 -- "Whichever two readings are taken, with n ticks and neither a setting nor an inserted second between them, the clock has gone
--- forward by at least 3,905 n us."
+-- forward by at least 3,905 n us." (A reading hands back the clock that it got, so that the first call between gets `clockAfter before`.)
 abbrev pub ThirdBound : List Event → Type 0
 ThirdBound calls =
     (before between later : List Event) → calls ≡ before ++ (Reading ∷ (between ++ (Reading ∷ later)))
     → unbroken (clockAfter before) between ≡ true
-    → toldAfter before + 3905 * ticksAmong (clockAfter before) between ≤ toldAfter (before ++ (Reading ∷ between))
+    → toldAfter before + leastTick * ticksAmong (clockAfter before) between ≤ toldAfter (before ++ (Reading ∷ between))
 
 -- Demand 3 of a list of calls.
 pub record Demand3 (calls : List Event) : Type 0 where

@@ -44,14 +44,14 @@ pub fn tick(c: Clock) -> Outcome
     let us = a.micros;
     let phase = a.phase;
     if us.0 < 1000000 {
-        let next = Clock {
+        let advanced = Clock {
             micros: us,
             phase: phase,
             ..c
         };
         return Outcome {
             refusal: 0,
-            clock: next,
+            clock: advanced,
         };
     }
     if c.seconds == LAST_SECOND {
@@ -61,13 +61,13 @@ pub fn tick(c: Clock) -> Outcome
         };
     }
     let rest = Micros(us.0 - 1000000);
-    let next = rollover(Clock {
+    let rolled = rollover(Clock {
         micros: rest,
         phase: phase,
         ..c
     });
     Outcome {
         refusal: 0,
-        clock: next,
+        clock: rolled,
     }
 }

@@ -5,7 +5,7 @@ use Prim.Native.Nat.{ℕ, _+_, _*_, _≤_, _<_}
 use native.Mathlib.Omega.{arith}
 use lib.Dec.{ltb, eqb, lit<}
 use borrow.Author.Tests.{ltb-false, not-false}
-use lib.IntN.{ℤ, pos, _+ℤ_, _*ℤ_}
+use lib.IntN.{ℤ, pos, _*ℤ_}
 use Rattle.integers.proofs.Parts.{posPart, negPart, parts}
 use Rattle.integers.proofs.Ranges.{within-parts, between-parts}
 use Rattle.clock.specs.State.{inRange, atMost, below, greatestOffset, greatestFrequency, greatestConstant, greatestError, statusOk, statusBad}
@@ -14,7 +14,7 @@ use Rattle.clock.specs.declared.state.Clock.{Clock}
 use Rattle.clock.specs.declared.units.Micros.{Micros}
 use Rattle.clock.proofs.Ok.{Ok, ok}
 use Rattle.request.specs.declared.request.Request.{Request}
-use Rattle.request.specs.Request.{selectsOffset, selectsFrequency, selectsMaxerror, selectsEsterror, selectsStatus, selectsConstant, modeAbove, offsetOutside, frequencyOutside, errorAbove, statusAbove, constantAbove, requestRefusal, frequencyWritten, statusWritten, constantWritten, interval, gain, clamp, writesBad, statusAfter, requested}
+use Rattle.request.specs.Request.{selectsOffset, selectsFrequency, selectsMaxerror, selectsEsterror, selectsStatus, selectsConstant, modeAbove, offsetOutside, frequencyOutside, errorAbove, statusAbove, constantAbove, requestRefusal, frequencyWritten, statusWritten, constantWritten, clamp, frequencyGrown, writesBad, statusAfter, requested}
 use Rattle.request.proofs.GainLaws.{clamp-parts}
 
 -- a chain of refusals that comes to 0 was not left at its first
@@ -119,8 +119,8 @@ module _ (c : Clock) (r : Request) (a : Accepted c r) where
             (λ t. simp parts (omega (arith, a .offset t)))
             (a .clock .offset);
         frequency =
-            cond-parts (selectsOffset r) (clamp (frequencyWritten c r +ℤ gain (r .offset .0) (interval c) (constantWritten c r))) (frequencyWritten c r) 1677721600
-            (λ t. clamp-parts (frequencyWritten c r +ℤ gain (r .offset .0) (interval c) (constantWritten c r)))
+            cond-parts (selectsOffset r) (clamp (frequencyGrown c r)) (frequencyWritten c r) 1677721600
+            (λ t. clamp-parts (frequencyGrown c r))
             frequency-written;
         adjustment = a .clock .adjustment;
         constant = constant-written;

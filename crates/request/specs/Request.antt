@@ -114,12 +114,12 @@ clamp z =
     (negℤ (pos greatestFrequency))
     (cond (ltZ (pos greatestFrequency) z) (pos greatestFrequency) z)
 
--- the frequency after the request: the gain takes the frequency and the time constant that this request wrote
+-- the frequency that an offset leads to; its gain takes the frequency and the time constant that this request wrote
+abbrev pub frequencyGrown : Clock → Request → ℤ
+frequencyGrown c r = frequencyWritten c r +ℤ gain (r .offset .0) (interval c) (constantWritten c r)
+
 abbrev pub frequencyAfter : Clock → Request → ℤ
-frequencyAfter c r =
-    cond (selectsOffset r)
-    (clamp (frequencyWritten c r +ℤ gain (r .offset .0) (interval c) (constantWritten c r)))
-    (frequencyWritten c r)
+frequencyAfter c r = cond (selectsOffset r) (clamp (frequencyGrown c r)) (frequencyWritten c r)
 
 -- "The present second becomes the earlier update."
 abbrev pub updatedAfter : Clock → Request → ℕ
