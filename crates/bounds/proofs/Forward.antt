@@ -20,15 +20,10 @@ use Rattle.request.specs.declared.request.Request.{Request}
 use Rattle.request.proofs.RequestCases as req
 use Rattle.event.specs.declared.event.Event.{Event}
 use Rattle.event.specs.declared.event.Event.the-variants as call
-use Rattle.bounds.specs.Calls.{next, after, ticks, sets, insertsSecond, ticksAmong, unbroken}
-use Rattle.bounds.specs.Calls as calls
+use Rattle.bounds.specs.Calls.{next, after, ticks, breaks, ticksAmong, unbroken}
 use Rattle.bounds.specs.Book.{Book, entered}
 use Rattle.bounds.specs.Demand.{leastTick}
 use Rattle.bounds.proofs.Exact.{told, Inv, step-inv, not-zero}
-
--- whether a call breaks the stretch between two readings
-abbrev breaks : Clock → Event → Bool
-breaks c e = sets c e || (calls.rolls c e && insertsSecond c)
 
 -- with no inserted second, a rollover does not lose one
 leap-least : (status s : ℕ) → LeapCase status s → inserts status s ≡ false → s ≤ leapSeconds status s

@@ -65,7 +65,11 @@ unfoldable pub ticksAmong : Clock → List Event → ℕ
 ticksAmong c [] = 0
 ticksAmong c (e ∷ es) = cond (ticks c e) 1 0 + ticksAmong (next c e) es
 
+-- an accepted setting, or an accepted tick whose rollover inserts a second
+abbrev pub breaks : Clock → Event → Bool
+breaks c e = sets c e || (rolls c e && insertsSecond c)
+
 -- whether there is "neither a setting nor an inserted second" among the calls, the first of which gets c
 unfoldable pub unbroken : Clock → List Event → Bool
 unbroken c [] = true
-unbroken c (e ∷ es) = not (sets c e || (rolls c e && insertsSecond c)) && unbroken (next c e) es
+unbroken c (e ∷ es) = not (breaks c e) && unbroken (next c e) es
