@@ -132,7 +132,7 @@ loop-again c =
     let L = w .before .before .before .before .loop in
     let s = w .before .before .before .before .before .before .args .s .now in (
       read-on w (later-more _ _ _ (w .wide .result) (w .before .before .if1 .left) (w .wide .ensures .0) (c .if2 .left))
-      ∙ onto-before (L .sum) (L .scale) (w .wide .result) (laterAt (L .left - 1) s (L .p + 1)),
+          ∙ onto-before (L .sum) (L .scale) (w .wide .result) (laterAt (L .left - 1) s (L .p + 1)),
       (scale-next (L .left) (L .scale) (w .before .before .before .loop-test .taken) (L .inv .1 .0), omega (arith, group-scaled w)),
     )
 

@@ -1,34 +1,52 @@
+-- `number::encode::write_all` meets its contract: the two tests decide whether there is room for all the numbers.
+use mathlib.Core.Path.{_≡_, sym, _∙_}
+use mathlib.Core.Bool.{true}
+use Prim.Native.Nat.{_+_, _-_, _<_, _≤_}
+use native.Mathlib.Omega.{arith}
+use lib.Dec.{leb}
+use lib.ListN.{length}
 use borrow.Author.Needs.{needs}
+use borrow.Author.Tests.{leb-true, leb-false}
+use Rattle.number.specs.Form.{bytesOfAll}
+use Rattle.number.proofs.Buffer.{filled-sets, filled-short, answered-room, answered-short}
 use Rattle.number.proofs.encode.write_all.Statement.{statement}
 use Rattle.number.proofs.encode.write_all.Tie as tie
-use Rattle.number.proofs.encode.write_all.Reads as reads
-use Rattle.number.proofs.encode.write_all.Lts as lts
-use Rattle.number.proofs.encode.fits.Reads as fits-reads
-use Rattle.number.proofs.encode.place_all.Reads as place-all-reads
 
--- src/encode.rt:111:9
+-- the numbers fit
+enough : (c : tie.Then2)
+    → let a = c .before .before .before .before .before .args in
+    a .at + length (bytesOfAll (a .ns .now)) ≤ length (a .buf .now)
+enough c =
+    let a = c .before .before .before .before .before .args in
+    omega (arith, leb-true (length (bytesOfAll (a .ns .now))) (length (a .buf .now) - a .at) (sym (c .before .fits2 .ensures) ∙ c .if2 .taken))
+
 returns : tie.Need-returns
-returns c = ?
+returns c =
+    let a = c .before .before .before .args in
+    let h : length (a .buf .now) < a .at + length (bytesOfAll (a .ns .now)) = omega arith in
+    (answered-short _ _ _ h, filled-short _ _ _ h)
 
--- src/encode.rt:113:8
 fits-requires : tie.Need-fits-requires
 fits-requires c κs = search needs
 
--- src/encode.rt:116:19
 place-all-requires : tie.Need-place-all-requires
-place-all-requires c κs = ?
+place-all-requires c κs = enough (c .before)
 
--- src/encode.rt:114:9
 same-length : tie.Need-same-length
 same-length c = search needs
 
--- src/encode.rt:114:9
 returns-2 : tie.Need-returns-2
-returns-2 c = ?
+returns-2 c =
+    let p = c .before .before in
+    let h = enough (p .before .before) in
+    (rw (p .place-all .ensures .0) (answered-room _ _ _ h), p .place-all .ensures .1 ∙ filled-sets _ _ _ h)
 
--- src/encode.rt:106:1
 returns-3 : tie.Need-returns-3
-returns-3 c = ?
+returns-3 c =
+    let a = c .before .before .before .before .before .args in
+    let f = leb-false (length (bytesOfAll (a .ns .now))) (length (a .buf .now) - a .at) (sym (c .before .fits2 .ensures) ∙ c .if2 .left) in
+    let h : length (a .buf .now) < a .at + length (bytesOfAll (a .ns .now)) = omega (arith, f) in
+    (answered-short _ _ _ h, filled-short _ _ _ h)
 
 pub write-all-spec : {M : Type 1} → statement M
 write-all-spec =
