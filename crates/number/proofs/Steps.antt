@@ -8,7 +8,7 @@ use native.Mathlib.Omega.{arith}
 use lib.Dec.{leb, eqb, leb·suc-suc, leb·suc-zero, leb·zero}
 use lib.ListN.{length, getD, take, drop, drop-of-length-le}
 use borrow.Author.Tests.{le-leb, lt-leb, lt-ltb, eq-eqb, ne-eqb}
-use Rattle.number.specs.Reading.{Found, number, refused, saying, valueOf, judged, numberAt}
+use Rattle.number.specs.Reading.{Found, number, refused, leadingMore, valueOf, judged, numberAt}
 use Rattle.number.specs.Later.{judgedLater, laterAt}
 use Rattle.number.proofs.Lists.{opened}
 
@@ -19,13 +19,13 @@ before b (refused n) = refused n
 
 -- ---- how many bytes say more
 
-saying-more : (b : ℕ) (bs : List ℕ) → 128 ≤ b → saying (b ∷ bs) ≡ suc (saying bs)
-unfolding saying
-saying-more b bs h = simp (le-leb 128 b h)
+leadingMore-more : (b : ℕ) (bs : List ℕ) → 128 ≤ b → leadingMore (b ∷ bs) ≡ suc (leadingMore bs)
+unfolding leadingMore
+leadingMore-more b bs h = simp (le-leb 128 b h)
 
-saying-last : (b : ℕ) (bs : List ℕ) → b < 128 → saying (b ∷ bs) ≡ 0
-unfolding saying
-saying-last b bs h = simp (lt-leb 128 b h)
+leadingMore-last : (b : ℕ) (bs : List ℕ) → b < 128 → leadingMore (b ∷ bs) ≡ 0
+unfolding leadingMore
+leadingMore-last b bs h = simp (lt-leb 128 b h)
 
 -- ---- the three refusals, one after the other
 
@@ -60,22 +60,22 @@ module _ (at b : ℕ) (bs : List ℕ) (k : ℕ) where
 
 module _ (s : List ℕ) (at : ℕ) where
   pub first-none : length s ≤ at → numberAt s at ≡ refused 10
-  unfolding numberAt judged saying
-  first-none h = ap (λ (bs : List ℕ). judged at bs (saying bs)) (drop-of-length-le s h)
+  unfolding numberAt judged leadingMore
+  first-none h = ap (λ (bs : List ℕ). judged at bs (leadingMore bs)) (drop-of-length-le s h)
 
   module _ (b : ℕ) (h : at < length s) (e : b ≡ getD s at 0) where
-    here₁ : numberAt s at ≡ judged at (b ∷ drop (at + 1) s) (saying (b ∷ drop (at + 1) s))
+    here₁ : numberAt s at ≡ judged at (b ∷ drop (at + 1) s) (leadingMore (b ∷ drop (at + 1) s))
     unfolding numberAt
-    here₁ = ap (λ (bs : List ℕ). judged at bs (saying bs)) (opened s at b h e)
+    here₁ = ap (λ (bs : List ℕ). judged at bs (leadingMore bs)) (opened s at b h e)
 
     pub first-last : b < 128 → numberAt s at ≡ number b (at + 1)
     unfolding judged valueOf
     first-last l =
-        here₁ ∙ ap (judged at (b ∷ drop (at + 1) s)) (saying-last b _ l) ∙ simp (leb·suc-zero) (ap (λ (v : ℕ). number v (at + 1)) (omega arith))
+        here₁ ∙ ap (judged at (b ∷ drop (at + 1) s)) (leadingMore-last b _ l) ∙ simp (leb·suc-zero) (ap (λ (v : ℕ). number v (at + 1)) (omega arith))
 
     pub first-more : 128 ≤ b → numberAt s at ≡ before b (laterAt 4 s (at + 1))
     unfolding laterAt
-    first-more l = here₁ ∙ ap (judged at (b ∷ drop (at + 1) s)) (saying-more b _ l) ∙ judged-more at b (drop (at + 1) s) (saying (drop (at + 1) s))
+    first-more l = here₁ ∙ ap (judged at (b ∷ drop (at + 1) s)) (leadingMore-more b _ l) ∙ judged-more at b (drop (at + 1) s) (leadingMore (drop (at + 1) s))
 
 -- ---- a byte after one that says more
 
@@ -85,27 +85,27 @@ later-no-more s at = simp (leb·zero)
 
 module _ (f : ℕ) (s : List ℕ) (at : ℕ) where
   pub later-none : length s ≤ at → laterAt (suc f) s at ≡ refused 10
-  unfolding laterAt judgedLater saying
-  later-none h = ap (λ (bs : List ℕ). judgedLater (suc f) at bs (saying bs)) (drop-of-length-le s h) ∙ simp (leb·suc-zero)
+  unfolding laterAt judgedLater leadingMore
+  later-none h = ap (λ (bs : List ℕ). judgedLater (suc f) at bs (leadingMore bs)) (drop-of-length-le s h) ∙ simp (leb·suc-zero)
 
   module _ (b : ℕ) (h : at < length s) (e : b ≡ getD s at 0) where
-    here₂ : laterAt (suc f) s at ≡ judgedLater (suc f) at (b ∷ drop (at + 1) s) (saying (b ∷ drop (at + 1) s))
+    here₂ : laterAt (suc f) s at ≡ judgedLater (suc f) at (b ∷ drop (at + 1) s) (leadingMore (b ∷ drop (at + 1) s))
     unfolding laterAt
-    here₂ = ap (λ (bs : List ℕ). judgedLater (suc f) at bs (saying bs)) (opened s at b h e)
+    here₂ = ap (λ (bs : List ℕ). judgedLater (suc f) at bs (leadingMore bs)) (opened s at b h e)
 
     pub later-zero : b ≡ 0 → laterAt (suc f) s at ≡ refused 11
     unfolding judgedLater
     later-zero z =
-        here₂ ∙ ap (judgedLater (suc f) at (b ∷ drop (at + 1) s)) (saying-last b _ (omega arith)) ∙ simp (leb·suc-zero, eq-eqb b 0 z)
+        here₂ ∙ ap (judgedLater (suc f) at (b ∷ drop (at + 1) s)) (leadingMore-last b _ (omega arith)) ∙ simp (leb·suc-zero, eq-eqb b 0 z)
 
     pub later-last : b < 128 → (b ≡ 0 → ⊥) → laterAt (suc f) s at ≡ number b (at + 1)
     unfolding judgedLater valueOf
     later-last l z =
-        here₂ ∙ ap (judgedLater (suc f) at (b ∷ drop (at + 1) s)) (saying-last b _ l)
+        here₂ ∙ ap (judgedLater (suc f) at (b ∷ drop (at + 1) s)) (leadingMore-last b _ l)
         ∙ simp (leb·suc-zero, ne-eqb b 0 z) (ap (λ (v : ℕ). number v (at + 1)) (omega arith))
 
     pub later-more : 128 ≤ b → laterAt (suc f) s at ≡ before b (laterAt f s (at + 1))
     unfolding laterAt
     later-more l =
-        here₂ ∙ ap (judgedLater (suc f) at (b ∷ drop (at + 1) s)) (saying-more b _ l)
-        ∙ judged-later-more at b (drop (at + 1) s) (saying (drop (at + 1) s)) f
+        here₂ ∙ ap (judgedLater (suc f) at (b ∷ drop (at + 1) s)) (leadingMore-more b _ l)
+        ∙ judged-later-more at b (drop (at + 1) s) (leadingMore (drop (at + 1) s)) f

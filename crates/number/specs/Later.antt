@@ -4,7 +4,7 @@ use mathlib.Core.List.{List}
 use Prim.Native.Nat.{ℕ, suc, _+_, _*_}
 use lib.Dec.{leb, eqb}
 use lib.ListN.{length, getD, take, drop}
-use Rattle.number.specs.Reading.{Found, number, refused, saying, valueOf}
+use Rattle.number.specs.Reading.{Found, number, refused, leadingMore, valueOf}
 
 -- as `judged`, after a byte that says more: `left` bytes may still be read, and a last byte of 0 is not the shortest form
 unfoldable pub judgedLater : ℕ → ℕ → List ℕ → ℕ → Found
@@ -16,7 +16,7 @@ judgedLater left at bs more =
 
 -- the rest of a number, from place `at` of s on
 unfoldable pub laterAt : ℕ → List ℕ → ℕ → Found
-laterAt left s at = judgedLater left at (drop at s) (saying (drop at s))
+laterAt left s at = judgedLater left at (drop at s) (leadingMore (drop at s))
 
 -- the rest on top of what was read before it: `low`, and `scale` for each unit of the rest
 abbrev pub onto : ℕ → ℕ → Found → Found

@@ -18,9 +18,9 @@ abbrev pub saysMore : ℕ → Bool
 saysMore b = leb 128 b
 
 -- how many bytes, from the first on, say that more follows
-unfoldable pub saying : List ℕ → ℕ
-saying [] = 0
-saying (b ∷ bs) = cond (saysMore b) (suc (saying bs)) 0
+unfoldable pub leadingMore : List ℕ → ℕ
+leadingMore [] = 0
+leadingMore (b ∷ bs) = cond (saysMore b) (suc (leadingMore bs)) 0
 
 -- groups of seven bits, lowest first
 unfoldable pub valueOf : List ℕ → ℕ
@@ -41,7 +41,7 @@ judged at bs more =
 
 -- what stands at place `at` of s; past the end of s nothing does
 unfoldable pub numberAt : List ℕ → ℕ → Found
-numberAt s at = judged at (drop at s) (saying (drop at s))
+numberAt s at = judged at (drop at s) (leadingMore (drop at s))
 
 -- what each case of the reader's answer says
 abbrev pub told : Decoded → Found

@@ -17,14 +17,14 @@ fn wide(b: u8) -> u64
 }
 
 // The number that starts at `at`. Most numbers have one or two bytes: those take no loop.
-pub fn read(s: &[u8], at: usize) -> Decoded
-    ensures { λ r. ⌜ told r ≡ numberAt (now (s .entry)) at ⌝ }
+pub fn read(bytes: &[u8], at: usize) -> Decoded
+    ensures { λ r. ⌜ told r ≡ numberAt (now (bytes .entry)) at ⌝ }
 {
-    let n = s.len();
+    let n = bytes.len();
     if n <= at {
         return Decoded::Refused(10);
     }
-    let b0 = wide(s[at]);
+    let b0 = wide(bytes[at]);
     if b0 < 128 {
         return Decoded::Value {
             value: b0,
@@ -35,9 +35,9 @@ pub fn read(s: &[u8], at: usize) -> Decoded
     if n <= p {
         return Decoded::Refused(10);
     }
-    let b1 = wide(s[p]);
+    let b1 = wide(bytes[p]);
     if 128 <= b1 {
-        return read_long(s, p + 1, b0 % 128 + 128 * (b1 % 128));
+        return read_long(bytes, p + 1, b0 % 128 + 128 * (b1 % 128));
     }
     if b1 == 0 {
         return Decoded::Refused(11);
@@ -49,11 +49,11 @@ pub fn read(s: &[u8], at: usize) -> Decoded
 }
 
 // The same for a number of three bytes or more, from its third byte on; `low` is what the first two hold.
-fn read_long(s: &[u8], at: usize, low: u64) -> Decoded
+fn read_long(bytes: &[u8], at: usize, low: u64) -> Decoded
     requires { ⌜ low < 16384 ⌝ }
-    ensures { λ r. ⌜ told r ≡ onto low 16384 (laterAt 3 (now (s .entry)) at) ⌝ }
+    ensures { λ r. ⌜ told r ≡ onto low 16384 (laterAt 3 (now (bytes .entry)) at) ⌝ }
 {
-    let n = s.len();
+    let n = bytes.len();
     let mut sum = low;
     let mut scale: u64 = 16384;
     let mut p = at;
@@ -62,7 +62,7 @@ fn read_long(s: &[u8], at: usize, low: u64) -> Decoded
         if n <= p {
             return Decoded::Refused(10);
         }
-        let b = wide(s[p]);
+        let b = wide(bytes[p]);
         if b < 128 {
             if b == 0 {
                 return Decoded::Refused(11);

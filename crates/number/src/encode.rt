@@ -72,7 +72,7 @@ pub fn write(buf: &mut [u8], at: usize, n: u32) -> Written
 }
 
 // Whether the numbers are written in at most `room` bytes.
-fn fits(room: usize, ns: &[u32]) -> bool
+fn fit_in(ns: &[u32], room: usize) -> bool
     ensures { λ r. ⌜ r ≡ leb (length (bytesOfAll (now (ns .entry)))) room ⌝ }
 {
     let mut left = room;
@@ -110,7 +110,7 @@ pub fn write_all(buf: &mut [u8], at: usize, ns: &[u32]) -> Written
     if len < at {
         return TOO_SHORT;
     }
-    if fits(len - at, ns) {
+    if fit_in(ns, len - at) {
         return Written {
             refusal: 0,
             next: place_all(buf, at, ns),

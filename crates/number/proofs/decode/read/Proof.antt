@@ -17,7 +17,7 @@ twice b₀ b₁ (refused n) = refl
 -- the first byte says more: what the rest gives
 after-first : (c : tie.Else2) {x : Found}
     → let a = c .before .before .before .before .before .args in
-    laterAt 4 (a .s .now) (a .at + 1) ≡ x → numberAt (a .s .now) (a .at) ≡ before (c .before .wide .result) x
+    laterAt 4 (a .bytes .now) (a .at + 1) ≡ x → numberAt (a .bytes .now) (a .at) ≡ before (c .before .wide .result) x
 after-first c e =
     let w = c .before in
     first-more _ _ (w .wide .result) (w .before .before .if1 .left) (w .wide .ensures .0) (c .if2 .left) ∙ ap (before (w .wide .result)) e
@@ -70,7 +70,7 @@ returns-4 c =
     let a = e .before .before .before .before .before .args in
     c .read-long .ensures
     ∙ sym (after-first e (later-more _ _ _ (w .wide2 .result) (w .before .before .if3 .left) (w .wide2 .ensures .0) (c .before .if4 .taken))
-    ∙ twice (e .before .wide .result) (w .wide2 .result) (laterAt 3 (a .s .now) (a .at + 1 + 1)))
+    ∙ twice (e .before .wide .result) (w .wide2 .result) (laterAt 3 (a .bytes .now) (a .at + 1 + 1)))
 
 returns-5 : tie.Need-returns-5
 returns-5 c =

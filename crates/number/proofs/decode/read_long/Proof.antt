@@ -58,7 +58,7 @@ module _ (w : tie.After-wide Inv-loop μ-loop) where
   read-on : {x : Found}
       → let L = w .before .before .before .before .loop in
       let a = w .before .before .before .before .before .before .args in
-      laterAt (suc (L .left - 1)) (a .s .now) (L .p) ≡ x → onto (a .low) 16384 (laterAt 3 (a .s .now) (a .at)) ≡ onto (L .sum) (L .scale) x
+      laterAt (suc (L .left - 1)) (a .bytes .now) (L .p) ≡ x → onto (a .low) 16384 (laterAt 3 (a .bytes .now) (a .at)) ≡ onto (L .sum) (L .scale) x
   read-on e =
       let L = w .before .before .before .before .loop in
       L .inv .0 ∙ ap (onto (L .sum) (L .scale)) (some-left _ _ (L .left) (w .before .before .before .loop-test .taken) ∙ e)
@@ -130,7 +130,7 @@ loop-again : tie.Need-loop-again Inv-loop μ-loop
 loop-again c =
     let w = c .before in
     let L = w .before .before .before .before .loop in
-    let s = w .before .before .before .before .before .before .args .s .now in (
+    let s = w .before .before .before .before .before .before .args .bytes .now in (
       read-on w (later-more _ _ _ (w .wide .result) (w .before .before .if1 .left) (w .wide .ensures .0) (c .if2 .left))
           ∙ onto-before (L .sum) (L .scale) (w .wide .result) (laterAt (L .left - 1) s (L .p + 1)),
       (scale-next (L .left) (L .scale) (w .before .before .before .loop-test .taken) (L .inv .1 .0), omega (arith, group-scaled w)),

@@ -18,7 +18,7 @@ enough : (c : tie.Then2)
     a .at + length (bytesOfAll (a .ns .now)) ≤ length (a .buf .now)
 enough c =
     let a = c .before .before .before .before .before .args in
-    omega (arith, leb-true (length (bytesOfAll (a .ns .now))) (length (a .buf .now) - a .at) (sym (c .before .fits2 .ensures) ∙ c .if2 .taken))
+    omega (arith, leb-true (length (bytesOfAll (a .ns .now))) (length (a .buf .now) - a .at) (sym (c .before .fit-in .ensures) ∙ c .if2 .taken))
 
 returns : tie.Need-returns
 returns c =
@@ -26,8 +26,8 @@ returns c =
     let h : length (a .buf .now) < a .at + length (bytesOfAll (a .ns .now)) = omega arith in
     (answered-short _ _ _ h, filled-short _ _ _ h)
 
-fits-requires : tie.Need-fits-requires
-fits-requires c κs = search needs
+fit-in-requires : tie.Need-fit-in-requires
+fit-in-requires c κs = search needs
 
 place-all-requires : tie.Need-place-all-requires
 place-all-requires c κs = enough (c .before)
@@ -44,10 +44,10 @@ returns-2 c =
 returns-3 : tie.Need-returns-3
 returns-3 c =
     let a = c .before .before .before .before .before .args in
-    let f = leb-false (length (bytesOfAll (a .ns .now))) (length (a .buf .now) - a .at) (sym (c .before .fits2 .ensures) ∙ c .if2 .left) in
+    let f = leb-false (length (bytesOfAll (a .ns .now))) (length (a .buf .now) - a .at) (sym (c .before .fit-in .ensures) ∙ c .if2 .left) in
     let h : length (a .buf .now) < a .at + length (bytesOfAll (a .ns .now)) = omega (arith, f) in
     (answered-short _ _ _ h, filled-short _ _ _ h)
 
 pub write-all-spec : {M : Type 1} → statement M
 write-all-spec =
-    tie.close (tie.spec returns fits-requires place-all-requires same-length returns-2 returns-3)
+    tie.close (tie.spec returns fit-in-requires place-all-requires same-length returns-2 returns-3)

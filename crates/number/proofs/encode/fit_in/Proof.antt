@@ -1,4 +1,4 @@
--- `number::encode::fits` meets its contract. The loop's invariant: what the numbers passed take is gone from the room. The measure is the
+-- `number::encode::fit_in` meets its contract. The loop's invariant: what the numbers passed take is gone from the room. The measure is the
 -- numbers left.
 use mathlib.Core.Path.{_≡_, sym, ap}
 use Prim.Native.Nat.{_+_, _-_, _≤_}
@@ -8,15 +8,15 @@ use borrow.Author.Needs.{needs}
 use borrow.Author.Tests.{le-leb, lt-leb}
 use Rattle.number.specs.Form.{bytesOfAll}
 use Rattle.number.proofs.Sizes.{sizes-at, all-end}
-use Rattle.number.proofs.encode.fits.Statement.{statement}
-use Rattle.number.proofs.encode.fits.Tie as tie
+use Rattle.number.proofs.encode.fit_in.Statement.{statement}
+use Rattle.number.proofs.encode.fit_in.Tie as tie
 
 abbrev Inv-loop : tie.InvT-loop
-Inv-loop room ns left₀ i₀ left i =
+Inv-loop ns room left₀ i₀ left i =
     (length (bytesOfAll ns) + left ≡ room + length (bytesOfAll (drop i ns))) × (i ≤ length ns)
 
 abbrev μ-loop : tie.MeasureT-loop
-μ-loop room ns left₀ i₀ left i = length ns - i
+μ-loop ns room left₀ i₀ left i = length ns - i
 
 loop-holds : tie.Need-loop-holds Inv-loop μ-loop
 loop-holds c = search needs
@@ -58,8 +58,8 @@ returns-2 c =
     let ns = a .ns .now in
     sym (le-leb (length (bytesOfAll ns)) (a .room) (omega (arith, ap length (all-end ns i (c .loop-test .left)))))
 
-pub fits-spec : {M : Type 1} → statement M
-fits-spec =
+pub fit-in-spec : {M : Type 1} → statement M
+fit-in-spec =
     tie.close
     (tie.spec
     Inv-loop
