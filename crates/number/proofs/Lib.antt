@@ -1,8 +1,10 @@
 pub mod Lists
 pub mod Sizes
 pub mod Steps
+pub mod Extent
 pub mod ReadWritten
 pub mod WrittenRead
 pub mod Chain
 pub mod Buffer
 pub mod Mapping
+pub mod Examples

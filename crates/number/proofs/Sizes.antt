@@ -1,5 +1,6 @@
 -- The written form, a byte at a time; and how many bytes a number takes, by its size.
 use mathlib.Core.Path.{_≡_, refl, sym, _∙_, ap}
+use mathlib.Core.Bool.{true, false, cond}
 use mathlib.Core.List.{List, [], _∷_, _++_}
 use mathlib.Core.Logic.{⊎-elim}
 use Prim.Native.Nat.{ℕ, zero, suc, _+_, _*_, _/_, _%_, _^_, _<_, _≤_}
@@ -88,6 +89,21 @@ size-above k n h l = from-above 4 k n h l
 -- so a number takes exactly k + 1 bytes from 128 ^ k to 128 ^ (k + 1) - 1, and the number 0 takes one
 pub size-exact : (k n : ℕ) → k ≤ 4 → 128 ^ k ≤ n → n < 128 ^ suc k → length (bytesOf n) ≡ suc k
 size-exact k n h l u = omega (arith, size-below k n u, size-above k n h l)
+
+-- a value that is y below m, and z from m on
+by-limit : (n m : ℕ) {x y z : ℕ} → (n < m → x ≡ y) → (m ≤ n → x ≡ z) → x ≡ cond (ltb n m) y z
+by-limit n m f g =
+    ⊎-elim (λ (t : ltb n m ≡ true). simp t (f (ltb-true n m t))) (λ (t : ltb n m ≡ false). simp t (g (ltb-false n m t))) (either (ltb n m))
+
+-- 1 byte below 2^7, 2 below 2^14, 3 below 2^21, 4 below 2^28, 5 below 2^35
+pub size-table : (n : ℕ) → n < 2 ^ 35
+    → length (bytesOf n) ≡ cond (ltb n (2 ^ 7)) 1 (cond (ltb n (2 ^ 14)) 2 (cond (ltb n (2 ^ 21)) 3 (cond (ltb n (2 ^ 28)) 4 5)))
+size-table n h =
+    by-limit n (2 ^ 7) (size-last n) (λ l1.
+    by-limit n (2 ^ 14) (size-exact 1 n (omega arith) l1) (λ l2.
+    by-limit n (2 ^ 21) (size-exact 2 n (omega arith) l2) (λ l3.
+    by-limit n (2 ^ 28) (size-exact 3 n (omega arith) l3) (λ l4.
+    size-exact 4 n (omega arith) l4 h))))
 
 -- never more than five
 from-most : (f n : ℕ) → length (bytesFrom f n) ≤ suc f

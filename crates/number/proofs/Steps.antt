@@ -17,6 +17,10 @@ abbrev pub before : ℕ → Found → Found
 before b (number v k) = number (b % 128 + 128 * v) k
 before b (refused n) = refused n
 
+-- no refusal is a number
+pub never : {X : Type 0} {d : Found} {r v next : ℕ} → d ≡ refused r → d ≡ number v next → X
+never p q = let z : _≡_ {A = ℕ} 0 1 = cc in absurd (omega arith)
+
 -- ---- how many bytes say more
 
 leadingMore-more : (b : ℕ) (bs : List ℕ) → 128 ≤ b → leadingMore (b ∷ bs) ≡ suc (leadingMore bs)
@@ -29,7 +33,7 @@ leadingMore-last b bs h = simp (lt-leb 128 b h)
 
 -- ---- the three refusals, one after the other
 
-abbrev checked : Bool → Bool → Bool → Found → Found
+abbrev pub checked : Bool → Bool → Bool → Found → Found
 checked t u w x = cond t (refused 11) (cond u (refused 10) (cond w (refused 11) x))
 
 before-checked : (b : ℕ) (t u w : Bool) (x : Found) → checked t u w (before b x) ≡ before b (checked t u w x)

@@ -13,19 +13,8 @@ pub fn map(v: i32) -> u32
     }
 }
 
-// The signed state field that n is written for.
-pub fn unmap(n: u32) -> i32
-    ensures { λ r. ⌜ r ≡ unmapped n ⌝ }
-{
-    if n % 2 == 0 {
-        (n / 2) as i32
-    } else {
-        -1 - ((n / 2) as i32)
-    }
-}
-
-// The signed number that a number of any size stands for: what was decoded is below 2^35, and nothing is cut before it is judged.
-pub fn unmap_wide(n: u64) -> i64
+// The signed number that n stands for. A decoded number may be wider than any field: 64 bits, so that nothing is cut before it is judged.
+pub fn unmap(n: u64) -> i64
     ensures { λ r. ⌜ r ≡ unmapped n ⌝ }
 {
     if n % 2 == 0 {

@@ -1,8 +1,8 @@
--- `number::zigzag::unmap` meets its contract, by the laws of the mapping at its width.
+-- `number::zigzag::unmap` meets its contract: half of n, or -1 less half of n.
 use mathlib.Core.Path.{sym, _∙_}
 use Prim.Native.Nat.{_/_}
 use native.Mathlib.Omega.{arith}
-use mir.Syntax.{w32}
+use mir.Syntax.{w64}
 use mir.Facts.{toZ-pos}
 use borrow.Author.Needs.{needs}
 use Rattle.number.proofs.Mapping.{even, odd, down-fits, down}
@@ -16,13 +16,13 @@ cast-result-2 : tie.Need-cast-result-2
 cast-result-2 c = search needs
 
 sub-result : tie.Need-sub-result
-sub-result c = down-fits w32 {h = c .before .args .n / 2} (omega arith)
+sub-result c = down-fits w64 {h = c .before .args .n / 2} (omega arith)
 
 returns : tie.Need-returns
-returns c = toZ-pos w32 (omega arith) ∙ sym (even _ (c .if1 .taken))
+returns c = toZ-pos w64 (omega arith) ∙ sym (even _ (c .if1 .taken))
 
 returns-2 : tie.Need-returns-2
-returns-2 c = down w32 (omega arith) ∙ sym (odd _ (c .if1 .left))
+returns-2 c = down w64 (omega arith) ∙ sym (odd _ (c .if1 .left))
 
 pub unmap-spec : {M : Type 1} → statement M
 unmap-spec = tie.close (tie.spec cast-result cast-result-2 sub-result returns returns-2)
