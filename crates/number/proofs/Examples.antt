@@ -5,7 +5,7 @@ use Prim.Native.Nat.{ℕ}
 use lib.IntN.{pos, negsuc}
 use Rattle.number.specs.Form.{bytesOf, bytesFrom}
 use Rattle.number.specs.Reading.{Found, number, refused, leadingMore, valueOf, judged, numberAt}
-use Rattle.number.specs.Mapping.{mapped, unmapped}
+use Rattle.number.specs.Mapping.{mapped}
 
 -- both errors, 16,000,000 us
 maximum-error : bytesOf 16000000 ≡ 0x80 ∷ 0xC8 ∷ 0xD0 ∷ 0x07 ∷ []

@@ -1,9 +1,9 @@
 -- What stands at a place, by the byte there: one law for each case of the first byte (`first-..`) and of one that follows a byte that
 -- says more (`later-..`).
-use mathlib.Core.Path.{_≡_, refl, sym, _∙_, ap}
+use mathlib.Core.Path.{_≡_, refl, _∙_, ap}
 use mathlib.Core.Bool.{Bool, true, false, cond}
-use mathlib.Core.List.{List, [], _∷_}
-use Prim.Native.Nat.{ℕ, zero, suc, _+_, _*_, _-_, _%_, _<_, _≤_}
+use mathlib.Core.List.{List, _∷_}
+use Prim.Native.Nat.{ℕ, suc, _+_, _*_, _%_, _<_, _≤_}
 use native.Mathlib.Omega.{arith}
 use lib.Dec.{leb, eqb, leb·suc-suc, leb·suc-zero, leb·zero}
 use lib.ListN.{length, getD, take, drop, drop-of-length-le}
@@ -23,13 +23,13 @@ never p q = let z : _≡_ {A = ℕ} 0 1 = cc in absurd (omega arith)
 
 -- ---- how many bytes say more
 
-leadingMore-more : (b : ℕ) (bs : List ℕ) → 128 ≤ b → leadingMore (b ∷ bs) ≡ suc (leadingMore bs)
+leading-more : (b : ℕ) (bs : List ℕ) → 128 ≤ b → leadingMore (b ∷ bs) ≡ suc (leadingMore bs)
 unfolding leadingMore
-leadingMore-more b bs h = simp (le-leb 128 b h)
+leading-more b bs h = simp (le-leb 128 b h)
 
-leadingMore-last : (b : ℕ) (bs : List ℕ) → b < 128 → leadingMore (b ∷ bs) ≡ 0
+leading-last : (b : ℕ) (bs : List ℕ) → b < 128 → leadingMore (b ∷ bs) ≡ 0
 unfolding leadingMore
-leadingMore-last b bs h = simp (lt-leb 128 b h)
+leading-last b bs h = simp (lt-leb 128 b h)
 
 -- ---- the three refusals, one after the other
 
@@ -75,11 +75,11 @@ module _ (s : List ℕ) (at : ℕ) where
     pub first-last : b < 128 → numberAt s at ≡ number b (at + 1)
     unfolding judged valueOf
     first-last l =
-        here₁ ∙ ap (judged at (b ∷ drop (at + 1) s)) (leadingMore-last b _ l) ∙ simp (leb·suc-zero) (ap (λ (v : ℕ). number v (at + 1)) (omega arith))
+        here₁ ∙ ap (judged at (b ∷ drop (at + 1) s)) (leading-last b _ l) ∙ simp (leb·suc-zero) (ap (λ (v : ℕ). number v (at + 1)) (omega arith))
 
     pub first-more : 128 ≤ b → numberAt s at ≡ before b (laterAt 4 s (at + 1))
     unfolding laterAt
-    first-more l = here₁ ∙ ap (judged at (b ∷ drop (at + 1) s)) (leadingMore-more b _ l) ∙ judged-more at b (drop (at + 1) s) (leadingMore (drop (at + 1) s))
+    first-more l = here₁ ∙ ap (judged at (b ∷ drop (at + 1) s)) (leading-more b _ l) ∙ judged-more at b (drop (at + 1) s) (leadingMore (drop (at + 1) s))
 
 -- ---- a byte after one that says more
 
@@ -100,16 +100,16 @@ module _ (f : ℕ) (s : List ℕ) (at : ℕ) where
     pub later-zero : b ≡ 0 → laterAt (suc f) s at ≡ refused 11
     unfolding judgedLater
     later-zero z =
-        here₂ ∙ ap (judgedLater (suc f) at (b ∷ drop (at + 1) s)) (leadingMore-last b _ (omega arith)) ∙ simp (leb·suc-zero, eq-eqb b 0 z)
+        here₂ ∙ ap (judgedLater (suc f) at (b ∷ drop (at + 1) s)) (leading-last b _ (omega arith)) ∙ simp (leb·suc-zero, eq-eqb b 0 z)
 
     pub later-last : b < 128 → (b ≡ 0 → ⊥) → laterAt (suc f) s at ≡ number b (at + 1)
     unfolding judgedLater valueOf
     later-last l z =
-        here₂ ∙ ap (judgedLater (suc f) at (b ∷ drop (at + 1) s)) (leadingMore-last b _ l)
+        here₂ ∙ ap (judgedLater (suc f) at (b ∷ drop (at + 1) s)) (leading-last b _ l)
         ∙ simp (leb·suc-zero, ne-eqb b 0 z) (ap (λ (v : ℕ). number v (at + 1)) (omega arith))
 
     pub later-more : 128 ≤ b → laterAt (suc f) s at ≡ before b (laterAt f s (at + 1))
     unfolding laterAt
     later-more l =
-        here₂ ∙ ap (judgedLater (suc f) at (b ∷ drop (at + 1) s)) (leadingMore-more b _ l)
+        here₂ ∙ ap (judgedLater (suc f) at (b ∷ drop (at + 1) s)) (leading-more b _ l)
         ∙ judged-later-more at b (drop (at + 1) s) (leadingMore (drop (at + 1) s)) f

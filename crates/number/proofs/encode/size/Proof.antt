@@ -1,8 +1,7 @@
 -- `number::encode::size` meets its contract: each test brings the number between two powers of 128.
-use Prim.Native.Nat.{_≤_, _<_}
-use native.Mathlib.Omega.{arith}
-use Rattle.number.proofs.Sizes.{size-last, size-exact, size-below, size-above}
 use mathlib.Core.Path.{sym}
+use native.Mathlib.Omega.{arith}
+use Rattle.number.proofs.Sizes.{size-last, size-exact}
 use Rattle.number.proofs.encode.size.Statement.{statement}
 use Rattle.number.proofs.encode.size.Tie as tie
 
