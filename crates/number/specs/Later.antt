@@ -1,0 +1,24 @@
+-- What the reader's private routine for long numbers gives. No public promise names these definitions.
+use mathlib.Core.Bool.{cond}
+use mathlib.Core.List.{List}
+use Prim.Native.Nat.{ℕ, suc, _+_, _*_}
+use lib.Dec.{leb, eqb}
+use lib.ListN.{length, getD, take, drop}
+use Rattle.number.specs.Reading.{Found, number, refused, leadingMore, valueOf}
+
+-- as `judged`, after a byte that says more: `left` bytes may still be read, and a last byte of 0 is not the shortest form
+unfoldable pub judgedLater : ℕ → ℕ → List ℕ → ℕ → Found
+judgedLater left at bs more =
+    cond (leb left more) (refused 11)
+    (cond (leb (length bs) more) (refused 10)
+    (cond (eqb (getD bs more 0) 0) (refused 11)
+    (number (valueOf (take (suc more) bs)) (at + suc more))))
+
+-- the rest of a number, from place `at` of s on
+unfoldable pub laterAt : ℕ → List ℕ → ℕ → Found
+laterAt left s at = judgedLater left at (drop at s) (leadingMore (drop at s))
+
+-- the rest on top of what was read before it: `low`, and `scale` for each unit of the rest
+abbrev pub onto : ℕ → ℕ → Found → Found
+onto low scale (number v k) = number (low + scale * v) k
+onto low scale (refused refusal) = refused refusal

@@ -1,0 +1,81 @@
+// Reading a number at a place of some bytes.
+ghost use mathlib.Core.Path.{_≡_};
+ghost use Prim.Native.Nat.{_<_};
+ghost use Rattle.number.specs.Reading.{numberAt, told};
+ghost use Rattle.number.specs.Later.{laterAt, onto};
+
+// What reading at a place gives: the number there, below 2^35, and the place after it; or the refusal, 10 or 11.
+pub enum Decoded {
+    Value { value: u64, next: usize },
+    Refused(u8),
+}
+
+fn wide(b: u8) -> u64
+    ensures { λ r. ⌜ (r ≡ b) × (r < 256) ⌝ }
+{
+    b as u64
+}
+
+// The number that starts at `at`. Most numbers have one or two bytes: those take no loop.
+pub fn read(bytes: &[u8], at: usize) -> Decoded
+    ensures { λ r. ⌜ told r ≡ numberAt (now (bytes .entry)) at ⌝ }
+{
+    let n = bytes.len();
+    if n <= at {
+        return Decoded::Refused(10);
+    }
+    let b0 = wide(bytes[at]);
+    if b0 < 128 {
+        return Decoded::Value {
+            value: b0,
+            next: at + 1,
+        };
+    }
+    let p = at + 1;
+    if n <= p {
+        return Decoded::Refused(10);
+    }
+    let b1 = wide(bytes[p]);
+    if 128 <= b1 {
+        return read_long(bytes, p + 1, b0 % 128 + 128 * (b1 % 128));
+    }
+    if b1 == 0 {
+        return Decoded::Refused(11);
+    }
+    Decoded::Value {
+        value: b0 % 128 + 128 * b1,
+        next: p + 1,
+    }
+}
+
+// The same for a number of three bytes or more, from its third byte on; `low` is what the first two hold.
+fn read_long(bytes: &[u8], at: usize, low: u64) -> Decoded
+    requires { ⌜ low < 16384 ⌝ }
+    ensures { λ r. ⌜ told r ≡ onto low 16384 (laterAt 3 (now (bytes .entry)) at) ⌝ }
+{
+    let n = bytes.len();
+    let mut sum = low;
+    let mut scale: u64 = 16384;
+    let mut p = at;
+    let mut left: u64 = 3;
+    while 0 < left {
+        if n <= p {
+            return Decoded::Refused(10);
+        }
+        let b = wide(bytes[p]);
+        if b < 128 {
+            if b == 0 {
+                return Decoded::Refused(11);
+            }
+            return Decoded::Value {
+                value: sum + scale * b,
+                next: p + 1,
+            };
+        }
+        sum = sum + scale * (b % 128);
+        scale = scale * 128;
+        p = p + 1;
+        left = left - 1;
+    }
+    Decoded::Refused(11)
+}
