@@ -6,6 +6,7 @@ use Prim.Native.Nat.{ℕ, _+_, _-_, _≤_, _<_}
 use native.Mathlib.Omega.{arith}
 use borrow.Author.Tests.{leb-true, le-leb, not-true, not-false}
 use lib.Dec.{leb}
+use Rattle.integers.proofs.Ranges.{and-true}
 use Rattle.calendar.specs.declared.Date.{Date}
 use Rattle.calendar.specs.declared.Found.the-variants.{Day, NoDay}
 use Rattle.calendar.specs.Calendar.{monthDays, dateOf, days}
@@ -14,10 +15,6 @@ use Rattle.calendar.proofs.Dates.{on, Sound, sound, one-day, in-month, 
 use Rattle.calendar.proofs.Closed.{until-2106, year-bound}
 
 -- ---- a number within two others, as `within` tests it
-
-and-true : (a b : Bool) → a && b ≡ true → (a ≡ true) × (b ≡ true)
-and-true true b e = (refl, e)
-and-true false b e = absurd (true≢false (sym e))
 
 pub passed : (x low high : ℕ) {r : Bool} → r ≡ leb low x && leb x high → not r ≡ false → (low ≤ x) × (x ≤ high)
 passed x low high {r} e t =
