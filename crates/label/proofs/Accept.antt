@@ -110,8 +110,8 @@ module _ (text : List ℕ) where
     too-late (found h e) (shown w) l =
         let p = and-true (eqb n 49710) (ltb 23295 t) l in
         refuses (λ s sixty′ w′.
-            let day : n ≡ s / 86400 = one-day n (s / 86400) (sym e ∙ w′ .date) in
-            omega (arith, day, eqb-true n 49710 (p .0), ltb-true 23295 t (p .1), shown-once w (w′ .time) .0, w′ .bound))
+        let day : n ≡ s / 86400 = one-day n (s / 86400) (sym e ∙ w′ .date) in
+        omega (arith, day, eqb-true n 49710 (p .0), ltb-true 23295 t (p .1), shown-once w (w′ .time) .0, w′ .bound))
 
     pub is-label : length text ≡ 20 → isMarked text ≡ true → FoundAs (dateAt text) (Day n)
         → ShownBy (pairAt text 11) (pairAt text 14) (pairAt text 17) (At t sixty)

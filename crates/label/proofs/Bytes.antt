@@ -48,8 +48,8 @@ pub record Says (text : List ℕ) (s : ℕ) (sixty : Bool) : Type 0 where
 -- a date that is written reads as itself
 date-back : (d : Date) → Ranges d
     → on (100 * pairOf (digit (d .year / 100 / 10)) (digit (d .year / 100)) + pairOf (digit (d .year / 10)) (digit (d .year)))
-      (pairOf (digit (d .month / 10)) (digit (d .month))) (pairOf (digit (d .day / 10)) (digit (d .day)))
-      ≡ d
+    (pairOf (digit (d .month / 10)) (digit (d .month))) (pairOf (digit (d .day / 10)) (digit (d .day)))
+    ≡ d
 date-back d r =
     let century = pair-of-two _ _ (d .year / 100) (omega (arith, r .year)) refl refl in
     let year = pair-of-two _ _ (d .year % 100) (omega arith) (sym (tens-of-year (d .year))) (sym (units-of-year (d .year))) in
@@ -110,11 +110,11 @@ module _ (text : List ℕ) (long : length text ≡ 20) (marked : isMarked text �
       let p14 = two-of-pair _ _ h14 in
       let p17 = two-of-pair _ _ h17 in
       let time = then (eqb-true (getD text 10 0) 84 (m2 .1)) (then (p11 .1) (then (p11 .2)
-          (then (eqb-true (getD text 13 0) 58 (m3 .1)) (then (p14 .1) (then (p14 .2)
-          (then (eqb-true (getD text 16 0) 58 (m4 .1)) (then (p17 .1) (then (p17 .2)
-          (then (eqb-true (getD text 19 0) 90 (m5 .1)) refl))))))))) in
+      (then (eqb-true (getD text 13 0) 58 (m3 .1)) (then (p14 .1) (then (p14 .2)
+      (then (eqb-true (getD text 16 0) 58 (m4 .1)) (then (p17 .1) (then (p17 .2)
+      (then (eqb-true (getD text 19 0) 90 (m5 .1)) refl))))))))) in
       let date = then (eqb-true (getD text 4 0) 45 (m1 .0)) (then (p5 .1) (then (p5 .2)
-          (then (eqb-true (getD text 7 0) 45 (m1 .1)) (then (p8 .1) (then (p8 .2) time))))) in
+      (then (eqb-true (getD text 7 0) 45 (m1 .1)) (then (p8 .1) (then (p8 .2) time))))) in
       spelled text 20 0 (sym long)
       ∙ then (rw century (p0 .1)) (then (rw century (p0 .2)) (then (p2 .1 ∙ tens) (then (p2 .2 ∙ units) date)))
 

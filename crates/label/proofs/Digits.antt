@@ -42,6 +42,7 @@ module _ (a b : ℕ) where
     where
       within : (x : ℕ) → isDigit x ≡ true → (48 ≤ x) × (x ≤ 57)
       within x e = let p = and-true (leb 48 x) (leb x 57) e in (leb-true 48 x (p .0), leb-true x 57 (p .1))
+
       by-test : (s : Bool) → isDigit a ≡ s → (t : Bool) → isDigit b ≡ t → Pair a b ⊎ (pairOf a b ≡ 10000)
       by-test true p true q =
           inl (record { tens = within a p; units = within b q; number = pair-digits (within a p) (within b q) })
@@ -84,10 +85,10 @@ module _ (a b n u : ℕ) (ha : a < 256) (hb : b < 256) (hn : n < 2 ^ 32) (hu : u
   pair-refused f =
       ⊎-elim
       (λ (p : Pair a b).
-          let number : n + 528 ≡ 10 * a + b = unwrapped n 528 (10 * a + b) hn (omega (arith, p .tens, p .units)) en in
-          let unit : u + 48 ≡ b = unwrapped u 48 b hu (p .units .0) eu in
-          absurd
-          (true≢false
-          (sym (rw (lt-ltb n 100 (omega (arith, p .tens, p .units)), lt-ltb u 10 (omega (arith, p .units)))) ∙ f)))
+      let number : n + 528 ≡ 10 * a + b = unwrapped n 528 (10 * a + b) hn (omega (arith, p .tens, p .units)) en in
+      let unit : u + 48 ≡ b = unwrapped u 48 b hu (p .units .0) eu in
+      absurd
+      (true≢false
+      (sym (rw (lt-ltb n 100 (omega (arith, p .tens, p .units)), lt-ltb u 10 (omega (arith, p .units)))) ∙ f)))
       sym
       (pair-either a b)

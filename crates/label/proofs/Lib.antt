@@ -3,3 +3,4 @@ pub mod Parts
 pub mod DayTime
 pub mod Bytes
 pub mod Accept
+pub mod RoundTrip

@@ -20,7 +20,12 @@ pub(crate) fn is_marked(text: &[u8]) -> bool
     requires { ⌜ length (now text) ≡ 20 ⌝ }
     ensures { λ r. ⌜ r ≡ isMarked (now (text .entry)) ⌝ }
 {
-    (text[4] == b'-') & (text[7] == b'-') & (text[10] == b'T') & (text[13] == b':') & (text[16] == b':') & (text[19] == b'Z')
+    (text[4] == b'-')
+        & (text[7] == b'-')
+        & (text[10] == b'T')
+        & (text[13] == b':')
+        & (text[16] == b':')
+        & (text[19] == b'Z')
 }
 
 // The date that the digits say. A part that is not in digits is 10,000 or more.
@@ -70,5 +75,9 @@ pub(crate) fn time_at(text: &[u8]) -> Time
     requires { ⌜ length (now text) ≡ 20 ⌝ }
     ensures { λ r. ⌜ ShownBy (pairAt (now (text .entry)) 11) (pairAt (now (text .entry)) 14) (pairAt (now (text .entry)) 17) r ⌝ }
 {
-    time_of(pair(text[11], text[12]), pair(text[14], text[15]), pair(text[17], text[18]))
+    time_of(
+        pair(text[11], text[12]),
+        pair(text[14], text[15]),
+        pair(text[17], text[18]),
+    )
 }

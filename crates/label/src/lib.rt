@@ -8,12 +8,13 @@ ghost use mathlib.Core.Bool.{Bool};
 ghost use Rattle.label.specs.Label.{isSixty};
 ghost use Rattle.label.specs.Writing.{writeRefusal, writtenTo};
 ghost use Rattle.label.specs.Reading.{ReadsAs};
+use crate::fields::Time;
 use calendar::Found;
 use clock::state::Clock;
-use crate::fields::Time;
 
 // The last day that a u32 of seconds reaches, 7 February 2106, and the second of that day at which it ends, 06:28:15.
 const LAST_DAY: u32 = 49710;
+
 const LAST_DAY_END: u32 = 23295;
 
 // Whether the clock's second reads 60: an inserted second is in progress (status OOP) at a day's end.

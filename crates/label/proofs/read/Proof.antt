@@ -7,117 +7,89 @@ use Rattle.label.proofs.Accept.{not-twenty, not-marked, not-dated, not-
 use borrow.Author.Needs.{needs}
 use Rattle.label.proofs.read.Statement.{statement}
 use Rattle.label.proofs.read.Tie as tie
-use Rattle.label.proofs.read.Reads as reads
-use Rattle.label.proofs.read.Lts as lts
-use Rattle.calendar.proofs.day_of.Reads as day-of-reads
-use Rattle.label.proofs.fields.date_at.Reads as date-at-reads
-use Rattle.label.proofs.fields.is_marked.Reads as is-marked-reads
-use Rattle.label.proofs.fields.time_at.Reads as time-at-reads
-use Rattle.label.proofs.not_a_label.Reads as not-a-label-reads
 
--- src/lib.rt:66:9
 not-a-label-requires : tie.Need-not-a-label-requires
 not-a-label-requires c κs = search needs
 
--- src/lib.rt:66:9
 returns : tie.Need-returns
 returns c = rw (c .not-a-label .ensures) (not-twenty _ (c .before .if1 .taken))
 
--- src/lib.rt:68:9
 is-marked-requires : tie.Need-is-marked-requires
 is-marked-requires c κs = search needs
 
--- src/lib.rt:69:9
 not-a-label-requires-2 : tie.Need-not-a-label-requires-2
 not-a-label-requires-2 c κs = search needs
 
--- src/lib.rt:69:9
 returns-2 : tie.Need-returns-2
-returns-2 c = 
+returns-2 c =
     rw (c .not-a-label2 .ensures) (not-marked _ (sym (c .before .before .is-marked .ensures) ∙ not-true _ (c .before .if2 .taken)))
 
--- src/lib.rt:71:34
 date-at-requires : tie.Need-date-at-requires
 date-at-requires c κs = search needs
 
--- src/lib.rt:71:9
 day-of-requires : tie.Need-day-of-requires
 day-of-requires c κs = search needs
 
--- src/lib.rt:72:20
 enum-known-found : tie.Need-enum-known-found
 enum-known-found c = search needs
 
--- src/lib.rt:73:9
 enum-told : tie.Need-enum-told
 enum-told c = search needs
 
--- src/lib.rt:73:9
 not-a-label-requires-3 : tie.Need-not-a-label-requires-3
 not-a-label-requires-3 c κs = search needs
 
--- src/lib.rt:73:9
 returns-3 : tie.Need-returns-3
-returns-3 c = 
+returns-3 c =
     let d = c .before .before .before in
     rw (c .not-a-label3 .ensures) (not-dated _ (rw (d .before .date-at .ensures, c .before .enum-told .given .1) at (d .day-of .ensures)))
 
--- src/lib.rt:75:9
 time-at-requires : tie.Need-time-at-requires
 time-at-requires c κs = search needs
 
--- src/lib.rt:76:20
 enum-known-time : tie.Need-enum-known-time
 enum-known-time c = search needs
 
--- src/lib.rt:77:9
 enum-told-2 : tie.Need-enum-told-2
 enum-told-2 c = search needs
 
--- src/lib.rt:77:9
 not-a-label-requires-4 : tie.Need-not-a-label-requires-4
 not-a-label-requires-4 c κs = search needs
 
--- src/lib.rt:77:9
 returns-4 : tie.Need-returns-4
-returns-4 c = 
+returns-4 c =
     let d = c .before .before .before in
     rw (c .not-a-label4 .ensures) (not-timed _ (rw (c .before .enum-told2 .given .1) at (d .time-at .ensures)))
 
--- src/lib.rt:80:9
 not-a-label-requires-5 : tie.Need-not-a-label-requires-5
 not-a-label-requires-5 c κs = search needs
 
--- src/lib.rt:80:9
 returns-5 : tie.Need-returns-5
-returns-5 c = 
+returns-5 c =
     let t = c .before .before .before in
     let d = t .before .before .before .before in
     let day = rw (d .before .before .before .date-at .ensures, d .found .given .1) at (d .before .before .day-of .ensures) in
     let time = rw (t .time .given .1) at (t .before .before .time-at .ensures) in
     rw (c .not-a-label5 .ensures) (too-late _ _ _ _ day time (c .before .if3 .taken))
 
--- src/lib.rt:84:18
 mul-t12 : tie.Need-mul-t12
-mul-t12 c = 
+mul-t12 c =
     let t = c .before .before in
     let d = t .before .before .before .before in
     let day = rw (d .before .before .before .date-at .ensures, d .found .given .1) at (d .before .before .day-of .ensures) in
     let time = rw (t .time .given .1) at (t .before .before .time-at .ensures) in
     record { fits = omega (arith, in-time day time (c .if3 .left)) }
 
--- src/lib.rt:84:18
 add-t13 : tie.Need-add-t13
-add-t13 c = 
+add-t13 c =
     let t = c .before .before in
     let d = t .before .before .before .before in
     let day = rw (d .before .before .before .date-at .ensures, d .found .given .1) at (d .before .before .day-of .ensures) in
     let time = rw (t .time .given .1) at (t .before .before .time-at .ensures) in
     record { fits = omega (arith, in-time day time (c .if3 .left)) }
 
--- src/lib.rt:62:1
 returns-6 : tie.Need-returns-6
-returns-6 c = 
+returns-6 c =
     let t = c .before .before in
     let d = t .before .before .before .before in
     let day = rw (d .before .before .before .date-at .ensures, d .found .given .1) at (d .before .before .day-of .ensures) in

@@ -9,54 +9,39 @@ use Rattle.label.specs.Writing.{writeRefusal, writtenTo}
 use borrow.Author.Needs.{needs}
 use Rattle.label.proofs.write.Statement.{statement}
 use Rattle.label.proofs.write.Tie as tie
-use Rattle.label.proofs.write.Reads as reads
-use Rattle.label.proofs.write.Lts as lts
-use Rattle.bytes.proofs.copy.Reads as copy-reads
-use Rattle.clock.proofs.state.in_range.Reads as in-range-reads
-use Rattle.label.proofs.is_sixty.Reads as is-sixty-reads
-use Rattle.label.proofs.text.text.Reads as text-reads
 
--- src/lib.rt:32:9
 in-range-requires : tie.Need-in-range-requires
 in-range-requires c κs = search needs
 
--- src/lib.rt:33:9
 returns : tie.Need-returns
 unfolding writeRefusal writtenTo
-returns c = 
+returns c =
     let out = not-true _ (c .if1 .taken) in
     let h : inRange (c .before .before .before .args .c) ≡ false = sym (c .before .in-range .ensures) ∙ out in
     (simp h, simp h)
 
--- src/lib.rt:36:9
 returns-2 : tie.Need-returns-2
 unfolding writeRefusal writtenTo
-returns-2 c = 
+returns-2 c =
     let ok = not-false _ (c .before .if1 .left) in
     let h : inRange (c .before .before .before .before .args .c) ≡ true = sym (c .before .before .in-range .ensures) ∙ ok in
     (simp (h, lt-ltb _ _ (c .if2 .taken)), simp (h, lt-ltb _ _ (c .if2 .taken)))
 
--- src/lib.rt:38:39
 is-sixty-requires : tie.Need-is-sixty-requires
 is-sixty-requires c κs = search needs
 
--- src/lib.rt:38:17
 text-requires : tie.Need-text-requires
 text-requires c κs = search needs
 
--- src/lib.rt:39:17
 slice-aggregate-copy : tie.Need-slice-aggregate-copy
 slice-aggregate-copy c = search needs
 
--- src/lib.rt:39:5
 copy-requires : tie.Need-copy-requires
 copy-requires c κs = search needs
 
--- src/lib.rt:28:1
 same-length : tie.Need-same-length
 same-length c = search needs
 
--- src/lib.rt:28:1
 returns-3 : tie.Need-returns-3
 unfolding writeRefusal writtenTo labelOf
 returns-3 c =
@@ -66,8 +51,8 @@ returns-3 c =
     let room = le-ltb _ _ (c7 .if2 .left) in (
       simp (h, room),
       simp (h, room)
-      (rw (c .before .before .before .before .before .text .ensures, c .before .before .before .before .before .before .is-sixty .ensures) at
-      (c .before .before .copy .ensures .1)),
+          (rw (c .before .before .before .before .before .text .ensures, c .before .before .before .before .before .before .is-sixty .ensures) at
+          (c .before .before .copy .ensures .1)),
     )
 
 pub write-spec : {M : Type 1} → statement M

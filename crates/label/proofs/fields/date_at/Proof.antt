@@ -5,67 +5,49 @@ use Rattle.label.proofs.Digits.{bounded}
 use borrow.Author.Needs.{needs}
 use Rattle.label.proofs.fields.date_at.Statement.{statement}
 use Rattle.label.proofs.fields.date_at.Tie as tie
-use Rattle.label.proofs.fields.date_at.Reads as reads
-use Rattle.label.proofs.fields.date_at.Lts as lts
-use Rattle.label.proofs.fields.pair.Reads as pair-reads
 
--- src/fields.rt:32:26
 shared-slice-read-pair : tie.Need-shared-slice-read-pair
 shared-slice-read-pair c = search needs
 
--- src/fields.rt:32:35
 shared-slice-read-pair-2 : tie.Need-shared-slice-read-pair-2
 shared-slice-read-pair-2 c = search needs
 
--- src/fields.rt:32:21
 pair-requires : tie.Need-pair-requires
 pair-requires c κs = search needs
 
--- src/fields.rt:32:15
 mul-t7 : tie.Need-mul-t7
 mul-t7 c = record { fits = omega (arith, bounded _ _ (c .pair .ensures)) }
 
--- src/fields.rt:32:51
 shared-slice-read-pair-3 : tie.Need-shared-slice-read-pair-3
 shared-slice-read-pair-3 c = search needs
 
--- src/fields.rt:32:60
 shared-slice-read-pair-4 : tie.Need-shared-slice-read-pair-4
 shared-slice-read-pair-4 c = search needs
 
--- src/fields.rt:32:46
 pair-requires-2 : tie.Need-pair-requires-2
 pair-requires-2 c κs = search needs
 
--- src/fields.rt:32:15
 add-t13 : tie.Need-add-t13
 add-t13 c = record { fits = omega (arith, bounded _ _ (c .before .before .before .pair .ensures), bounded _ _ (c .pair2 .ensures)) }
 
--- src/fields.rt:33:21
 shared-slice-read-pair-5 : tie.Need-shared-slice-read-pair-5
 shared-slice-read-pair-5 c = search needs
 
--- src/fields.rt:33:30
 shared-slice-read-pair-6 : tie.Need-shared-slice-read-pair-6
 shared-slice-read-pair-6 c = search needs
 
--- src/fields.rt:33:16
 pair-requires-3 : tie.Need-pair-requires-3
 pair-requires-3 c κs = search needs
 
--- src/fields.rt:34:19
 shared-slice-read-pair-7 : tie.Need-shared-slice-read-pair-7
 shared-slice-read-pair-7 c = search needs
 
--- src/fields.rt:34:28
 shared-slice-read-pair-8 : tie.Need-shared-slice-read-pair-8
 shared-slice-read-pair-8 c = search needs
 
--- src/fields.rt:34:14
 pair-requires-4 : tie.Need-pair-requires-4
 pair-requires-4 c κs = search needs
 
--- src/fields.rt:27:1
 returns : tie.Need-returns
 returns c = cc
 

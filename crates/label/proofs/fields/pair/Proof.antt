@@ -4,34 +4,25 @@ use borrow.Author.Needs.{needs}
 use Rattle.label.proofs.Digits.{pair-read, pair-refused}
 use Rattle.label.proofs.fields.pair.Statement.{statement}
 use Rattle.label.proofs.fields.pair.Tie as tie
-use Rattle.label.proofs.fields.pair.Reads as reads
-use Rattle.label.proofs.fields.pair.Lts as lts
-use Rattle.std.proofs.num.wrapping_sub_u32.Reads as wrapping-sub-u32-reads
 
--- src/fields.rt:13:40
 mul-wrapping-sub-u32 : tie.Need-mul-wrapping-sub-u32
 mul-wrapping-sub-u32 c = search needs
 
--- src/fields.rt:13:40
 add-wrapping-sub-u32 : tie.Need-add-wrapping-sub-u32
 add-wrapping-sub-u32 c = search needs
 
--- src/fields.rt:13:9
 wrapping-sub-u32-requires : tie.Need-wrapping-sub-u32-requires
 wrapping-sub-u32-requires c κs = search needs
 
--- src/fields.rt:14:9
 wrapping-sub-u32-requires-2 : tie.Need-wrapping-sub-u32-requires-2
 wrapping-sub-u32-requires-2 c κs = search needs
 
--- src/fields.rt:9:1
 returns : tie.Need-returns
 returns c =
     let c3 = c .before .before .before in
     pair-read (c3 .args .tens) (c3 .args .units) (c .before .before .wrapping-sub-u32 .result) (c .before .wrapping-sub-u322 .result) (search needs) (search needs)
     (search needs) (search needs) (c .before .before .wrapping-sub-u32 .ensures) (c .before .wrapping-sub-u322 .ensures) (c .if1 .taken)
 
--- src/fields.rt:9:1
 returns-2 : tie.Need-returns-2
 returns-2 c =
     let c3 = c .before .before .before in

@@ -3,52 +3,37 @@
 use borrow.Author.Needs.{needs}
 use Rattle.label.proofs.fields.time_at.Statement.{statement}
 use Rattle.label.proofs.fields.time_at.Tie as tie
-use Rattle.label.proofs.fields.time_at.Reads as reads
-use Rattle.label.proofs.fields.time_at.Lts as lts
-use Rattle.label.proofs.fields.pair.Reads as pair-reads
-use Rattle.label.proofs.fields.time_of.Reads as time-of-reads
 
--- src/fields.rt:73:18
 shared-slice-read-pair : tie.Need-shared-slice-read-pair
 shared-slice-read-pair c = search needs
 
--- src/fields.rt:73:28
 shared-slice-read-pair-2 : tie.Need-shared-slice-read-pair-2
 shared-slice-read-pair-2 c = search needs
 
--- src/fields.rt:73:13
 pair-requires : tie.Need-pair-requires
 pair-requires c κs = search needs
 
--- src/fields.rt:73:44
 shared-slice-read-pair-3 : tie.Need-shared-slice-read-pair-3
 shared-slice-read-pair-3 c = search needs
 
--- src/fields.rt:73:54
 shared-slice-read-pair-4 : tie.Need-shared-slice-read-pair-4
 shared-slice-read-pair-4 c = search needs
 
--- src/fields.rt:73:39
 pair-requires-2 : tie.Need-pair-requires-2
 pair-requires-2 c κs = search needs
 
--- src/fields.rt:73:70
 shared-slice-read-pair-5 : tie.Need-shared-slice-read-pair-5
 shared-slice-read-pair-5 c = search needs
 
--- src/fields.rt:73:80
 shared-slice-read-pair-6 : tie.Need-shared-slice-read-pair-6
 shared-slice-read-pair-6 c = search needs
 
--- src/fields.rt:73:65
 pair-requires-3 : tie.Need-pair-requires-3
 pair-requires-3 c κs = search needs
 
--- src/fields.rt:73:5
 time-of-requires : tie.Need-time-of-requires
 time-of-requires c κs = search needs
 
--- src/fields.rt:69:1
 returns : tie.Need-returns
 returns c = rw (c .before .before .before .before .before .before .before .pair .ensures, c .before .before .before .before .pair2 .ensures, c .before .pair3 .ensures) at (c .time-of .ensures)
 

@@ -4,40 +4,30 @@ use native.Mathlib.Omega.{arith}
 use Rattle.label.proofs.DayTime.{no-minute, minute-found, usual, day-end, no-second}
 use Rattle.label.proofs.fields.time_of.Statement.{statement}
 use Rattle.label.proofs.fields.time_of.Tie as tie
-use Rattle.label.proofs.fields.time_of.Reads as reads
-use Rattle.label.proofs.fields.time_of.Lts as lts
 
--- src/fields.rt:49:9
 returns : tie.Need-returns
 returns c = no-minute (c .before .args .hour) (c .before .args .minute) (c .before .args .second) (c .if1 .taken)
 
--- src/fields.rt:51:19
 mul-minutes : tie.Need-mul-minutes
 mul-minutes c = record { fits = omega (arith, minute-found (c .before .args .hour) (c .before .args .minute) (c .before .args .second) (c .if1 .left)) }
 
--- src/fields.rt:51:19
 add-minutes : tie.Need-add-minutes
 add-minutes c = record { fits = omega (arith, minute-found (c .before .args .hour) (c .before .args .minute) (c .before .args .second) (c .if1 .left)) }
 
--- src/fields.rt:54:21
 mul-t9 : tie.Need-mul-t9
 mul-t9 c = record { fits = omega (arith, minute-found (c .before .before .args .hour) (c .before .before .args .minute) (c .before .before .args .second) (c .before .if1 .left)) }
 
--- src/fields.rt:54:21
 add-t10 : tie.Need-add-t10
 add-t10 c = record { fits = omega (arith, minute-found (c .before .before .args .hour) (c .before .before .args .minute) (c .before .before .args .second) (c .before .if1 .left)) }
 
--- src/fields.rt:53:9
 returns-2 : tie.Need-returns-2
 returns-2 c = usual (c .before .before .args .hour) (c .before .before .args .minute) (c .before .before .args .second)
     (minute-found (c .before .before .args .hour) (c .before .before .args .minute) (c .before .before .args .second) (c .before .if1 .left)) (c .if2 .taken)
 
--- src/fields.rt:45:1
 returns-3 : tie.Need-returns-3
 returns-3 c = day-end (c .before .before .before .args .hour) (c .before .before .before .args .minute) (c .before .before .before .args .second)
     (minute-found (c .before .before .before .args .hour) (c .before .before .before .args .minute) (c .before .before .before .args .second) (c .before .before .if1 .left)) (c .if3 .taken)
 
--- src/fields.rt:45:1
 returns-4 : tie.Need-returns-4
 returns-4 c = no-second (c .before .before .before .args .hour) (c .before .before .before .args .minute) (c .before .before .before .args .second)
     (minute-found (c .before .before .before .args .hour) (c .before .before .before .args .minute) (c .before .before .before .args .second) (c .before .before .if1 .left)) (c .before .if2 .left) (c .if3 .left)

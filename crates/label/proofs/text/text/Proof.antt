@@ -7,94 +7,71 @@ use Rattle.label.proofs.Digits.{tens-of-year, units-of-year}
 use Rattle.label.proofs.Parts.{hour-of, minute-of, second-of, second-below, ranges-of}
 use Rattle.label.proofs.text.text.Statement.{statement}
 use Rattle.label.proofs.text.text.Tie as tie
-use Rattle.label.proofs.text.text.Reads as reads
-use Rattle.label.proofs.text.text.Lts as lts
-use Rattle.calendar.proofs.date_of_second.Reads as date-of-second-reads
-use Rattle.label.proofs.text.shown_second.Reads as shown-second-reads
-use Rattle.label.proofs.text.tens.Reads as tens-reads
-use Rattle.label.proofs.text.units.Reads as units-reads
 
--- src/text.rt:40:9
 date-of-second-requires : tie.Need-date-of-second-requires
 date-of-second-requires c κs = search needs
 
--- src/text.rt:47:9
 shown-second-requires : tie.Need-shown-second-requires
 shown-second-requires c κs = search needs
 
--- src/text.rt:49:9
 tens-requires : tie.Need-tens-requires
-tens-requires c κs = 
+tens-requires c κs =
     let d = c .before .before .before in
     omega (arith, ranges-of (d .before .args .seconds) (search needs) (d .date-of-second .ensures) .year)
 
--- src/text.rt:50:9
 units-requires : tie.Need-units-requires
-units-requires c κs = 
+units-requires c κs =
     let d = c .before .before .before .before in
     omega (arith, ranges-of (d .before .args .seconds) (search needs) (d .date-of-second .ensures) .year)
 
--- src/text.rt:51:9
 tens-requires-2 : tie.Need-tens-requires-2
 tens-requires-2 c κs = search needs
 
--- src/text.rt:52:9
 units-requires-2 : tie.Need-units-requires-2
 units-requires-2 c κs = search needs
 
--- src/text.rt:54:9
 tens-requires-3 : tie.Need-tens-requires-3
-tens-requires-3 c κs = 
+tens-requires-3 c κs =
     let d = c .before .before .before .before .before .before .before in
     omega (arith, ranges-of (d .before .args .seconds) (search needs) (d .date-of-second .ensures) .month)
 
--- src/text.rt:55:9
 units-requires-3 : tie.Need-units-requires-3
-units-requires-3 c κs = 
+units-requires-3 c κs =
     let d = c .before .before .before .before .before .before .before .before in
     omega (arith, ranges-of (d .before .args .seconds) (search needs) (d .date-of-second .ensures) .month)
 
--- src/text.rt:57:9
 tens-requires-4 : tie.Need-tens-requires-4
-tens-requires-4 c κs = 
+tens-requires-4 c κs =
     let d = c .before .before .before .before .before .before .before .before .before in
     omega (arith, ranges-of (d .before .args .seconds) (search needs) (d .date-of-second .ensures) .day)
 
--- src/text.rt:58:9
 units-requires-4 : tie.Need-units-requires-4
-units-requires-4 c κs = 
+units-requires-4 c κs =
     let d = c .before .before .before .before .before .before .before .before .before .before in
     omega (arith, ranges-of (d .before .args .seconds) (search needs) (d .date-of-second .ensures) .day)
 
--- src/text.rt:60:9
 tens-requires-5 : tie.Need-tens-requires-5
 tens-requires-5 c κs = search needs
 
--- src/text.rt:61:9
 units-requires-5 : tie.Need-units-requires-5
 units-requires-5 c κs = search needs
 
--- src/text.rt:63:9
 tens-requires-6 : tie.Need-tens-requires-6
 tens-requires-6 c κs = search needs
 
--- src/text.rt:64:9
 units-requires-6 : tie.Need-units-requires-6
 units-requires-6 c κs = search needs
 
--- src/text.rt:66:9
 tens-requires-7 : tie.Need-tens-requires-7
-tens-requires-7 c κs = 
+tens-requires-7 c κs =
     let d = c .before .before .before .before .before .before .before .before .before .before .before .before in
     rw (d .shown-second .ensures) (second-below (d .before .before .before .before .args .seconds) (d .before .before .before .before .args .sixty))
 
--- src/text.rt:67:9
 units-requires-7 : tie.Need-units-requires-7
-units-requires-7 c κs = 
+units-requires-7 c κs =
     let d = c .before .before .before .before .before .before .before .before .before .before .before .before .before in
     rw (d .shown-second .ensures) (second-below (d .before .before .before .before .args .seconds) (d .before .before .before .before .args .sixty))
 
--- src/text.rt:37:1
 returns : tie.Need-returns
 unfolding labelOf
 returns c =
