@@ -1,5 +1,5 @@
 -- The closed forms of `src/month.rt` agree with the calendar, by two tests that antt computes: one at each day from 1970 to 2106,
--- one at each month. Assumes nothing.
+-- one at each month.
 use mathlib.Core.Path.{_≡_, refl, ap, _∙_, sym}
 use mathlib.Core.Bool.{Bool, true, false, cond, not, _&&_}
 use Prim.Native.Nat.{ℕ, zero, suc, _+_, _*_, _-_, _/_, _%_, _<_, _≤_}
@@ -26,12 +26,8 @@ abbrev pub dateClosed : ℕ → Date
 dateClosed n = ofQuarters (4 * (n + 671 + (n + 17995) / 65536) + 3)
 
 -- January and February are months 13 and 14 of a year that begins in March
-late-month : (m : ℕ) → m ≤ 14 → 12 * ((m + 3) / 16) ≤ m
+pub late-month : (m : ℕ) → m ≤ 14 → 12 * ((m + 3) / 16) ≤ m
 late-month m h = omega arith
-
-pub late-fits : (quarters : ℕ)
-    → 12 * (((2141 * (quarters % 1461 / 4) + 197913) / 65536 + 3) / 16) ≤ (2141 * (quarters % 1461 / 4) + 197913) / 65536
-late-fits quarters = late-month ((2141 * (quarters % 1461 / 4) + 197913) / 65536) (omega arith)
 
 -- ---- what `first_of` and `days_of` compute
 

@@ -1,5 +1,5 @@
 -- Laws of the calendar's own definition: the ranges of a date's parts, that no two days have one date, and that a month's days
--- follow its first. No routine's arithmetic is used here. Assumes nothing.
+-- follow its first. No routine's arithmetic is used here.
 use mathlib.Core.Path.{_≡_, refl, sym, ap, _∙_}
 use mathlib.Core.Bool.{Bool, true, false, cond}
 use mathlib.Core.Logic.{⊎-elim}

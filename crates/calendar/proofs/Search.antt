@@ -1,5 +1,4 @@
 -- What the tests of `day_of` say: a date that passes them is the date of the day that is worked out, and each day's date passes them.
--- Assumes nothing.
 use mathlib.Core.Path.{_≡_, refl, sym, ap, _∙_}
 use mathlib.Core.Bool.{Bool, true, false, true≢false, not, _&&_}
 use Prim.Native.Nat.{ℕ, _+_, _-_, _≤_, _<_}

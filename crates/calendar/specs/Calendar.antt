@@ -1,5 +1,5 @@
 -- The Gregorian calendar, counted in days from 1 January 1970. Each definition can be read against the rule itself: none holds
--- arithmetic of the routines. Assumes nothing.
+-- arithmetic of the routines.
 use Prim.Native.Nat.{ℕ, zero, suc, _+_, _-_, _/_, _%_, _^_}
 use mathlib.Core.Bool.{Bool, cond}
 use lib.Dec.{eqb, ltb}

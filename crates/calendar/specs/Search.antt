@@ -1,4 +1,4 @@
--- What is asked of the routines that find days and months. Assumes nothing.
+-- What is asked of the routines that find days and months.
 use mathlib.Core.Path.{_≡_}
 use Prim.Native.Nat.{ℕ, _+_, _-_, _≤_, _<_}
 use Rattle.calendar.specs.declared.Date.{Date}

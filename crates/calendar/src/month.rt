@@ -48,6 +48,7 @@ pub(crate) fn first_of(year: u32, month: u32) -> u32
     let early = (18 - month) / 16;
     let y = year - 1968 - early;
     let m = month + 12 * early;
+    // Days before the year, and in it before the month: 979 / 32 = 30.59 days a month, counted from March.
     let j = 1461 * y / 4 + (979 * m - 2919) / 32;
     // The quotient is 1 from 1 March 2100 on, which 2100 as a leap year would put at 48,213.
     j - 671 - (j + 17323) / 65536
@@ -58,6 +59,7 @@ pub(crate) fn days_of(year: u32, month: u32) -> u32
     requires { ⌜ (1970 ≤ year) × (year ≤ 2106) × (1 ≤ month) × (month ≤ 12) ⌝ }
     ensures { λ r. ⌜ r ≡ monthDays year month ⌝ }
 {
+    // 31 and 30 take turns, and begin anew in August.
     if month != 2 {
         return 30 + (month + month / 8) % 2;
     }

@@ -1,4 +1,4 @@
--- The reader's answers: what each of its tests says of the clocks that could have written the bytes. Assumes nothing.
+-- The reader's answers: what each of its tests says of the clocks that could have written the bytes.
 use mathlib.Core.Path.{_≡_, refl, sym, ap, _∙_}
 use mathlib.Core.Bool.{Bool, true, false, cond, true≢false, _&&_}
 use mathlib.Core.List.{List}

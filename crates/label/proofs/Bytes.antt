@@ -1,5 +1,4 @@
 -- Between twenty bytes and the parts of a label: what a label's bytes say, and that bytes which say it are the label's.
--- Assumes nothing.
 use mathlib.Core.Path.{_≡_, refl, sym, ap, _∙_}
 use mathlib.Core.Bool.{Bool, true, false, cond, true≢false, _&&_}
 use mathlib.Core.List.{List, [], _∷_}

@@ -1,4 +1,4 @@
--- Laws of decimal digits: written and read back. Assumes nothing.
+-- Laws of decimal digits: written and read back.
 use mathlib.Core.Path.{_≡_, refl, sym, _∙_}
 use mathlib.Core.Bool.{Bool, true, false, cond, true≢false, _&&_}
 use mathlib.Core.Logic.{_⊎_, inl, inr, ⊎-elim}

@@ -1,4 +1,4 @@
--- The hour, minute and second of a second, and the ranges of its date. Assumes nothing.
+-- The hour, minute and second of a second, and the ranges of its date.
 use mathlib.Core.Path.{_≡_, refl}
 use mathlib.Core.Bool.{Bool, true, false, cond}
 use Prim.Native.Nat.{ℕ, _+_, _*_, _-_, _/_, _%_, _≤_, _<_}

@@ -1,5 +1,5 @@
 -- The writer and the reader undo each other, and the reader accepts exactly the strings that the writer can write. The statements
--- are over the definitions that the contracts of `write` and `read` name. Assumes nothing.
+-- are over the definitions that the contracts of `write` and `read` name.
 use mathlib.Core.Path.{_≡_, refl, sym, ap, _∙_}
 use mathlib.Core.Bool.{Bool, true, false, not, cond, true≢false}
 use mathlib.Core.Logic.{_↔_}

@@ -1,4 +1,4 @@
--- "UTC label": the twenty bytes of a second, and those of a clock. Assumes nothing.
+-- "UTC label": the twenty bytes of a second, and those of a clock.
 use mathlib.Core.Bool.{Bool, cond, _&&_}
 use mathlib.Core.List.{List, [], _∷_, _++_}
 use Prim.Native.Nat.{ℕ, _+_, _/_, _%_}

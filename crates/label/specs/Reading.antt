@@ -1,4 +1,4 @@
--- What the reader answers. Assumes nothing.
+-- What the reader answers.
 use mathlib.Core.Path.{_≡_}
 use mathlib.Core.Bool.{true, false}
 use mathlib.Core.List.{List}

@@ -1,4 +1,4 @@
--- The steps of the reader, as the contracts of its private functions name them. No public promise rests on these. Assumes nothing.
+-- The steps of the reader, as the contracts of its private functions name them. No public promise rests on these.
 use mathlib.Core.Path.{_≡_}
 use mathlib.Core.Bool.{Bool, true, cond, _&&_}
 use mathlib.Core.List.{List}

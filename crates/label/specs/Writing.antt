@@ -1,4 +1,4 @@
--- What the writer answers, and what it leaves in the lent buffer. Assumes nothing.
+-- What the writer answers, and what it leaves in the lent buffer.
 use mathlib.Core.Bool.{not, cond}
 use mathlib.Core.List.{List, _++_}
 use Prim.Native.Nat.{ℕ}

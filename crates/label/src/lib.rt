@@ -36,7 +36,7 @@ pub fn write(c: Clock, out: &mut [u8]) -> u8
     if out.len() < 20 {
         return 14;
     }
-    let label = text::text(c.seconds, is_sixty(c));
+    let label = text::label_of(c.seconds, is_sixty(c));
     bytes::copy(&label, out);
     0
 }

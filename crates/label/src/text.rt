@@ -34,7 +34,7 @@ fn shown_second(second: u32, sixty: bool) -> u32
 }
 
 // The label of a second since 1970, or of the 60 that repeats it.
-pub(crate) fn text(seconds: u32, sixty: bool) -> [u8; 20]
+pub(crate) fn label_of(seconds: u32, sixty: bool) -> [u8; 20]
     ensures { λ r. ⌜ r ≡ labelOf seconds sixty ⌝ }
 {
     let date = calendar::date_of_second(seconds);

@@ -1,5 +1,4 @@
 -- `calendar::day_of` meets its contract: each test refuses only what is no day's date, and what passes all is the day that is found.
--- Assumes nothing.
 use borrow.Author.Needs.{needs}
 use borrow.Author.Tests.{ltb-true, ltb-false}
 use native.Mathlib.Omega.{arith}

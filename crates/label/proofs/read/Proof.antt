@@ -1,5 +1,4 @@
 -- `label::read` meets its contract: each test refuses only bytes that no clock's label has, and what passes all is a label.
--- Assumes nothing.
 use mathlib.Core.Path.{sym, _∙_}
 use native.Mathlib.Omega.{arith}
 use borrow.Author.Tests.{not-true, not-false}

@@ -1,5 +1,4 @@
 -- `label::write` meets its contract: the label is copied over the first twenty bytes, or nothing is written.
--- Assumes nothing.
 use mathlib.Core.Path.{_≡_, sym, _∙_}
 use mathlib.Core.Bool.{true, false}
 use borrow.Author.Tests.{not-true, not-false, lt-ltb, le-ltb}
@@ -30,8 +29,8 @@ returns-2 c =
 is-sixty-requires : tie.Need-is-sixty-requires
 is-sixty-requires c κs = search needs
 
-text-requires : tie.Need-text-requires
-text-requires c κs = search needs
+label-of-requires : tie.Need-label-of-requires
+label-of-requires c κs = search needs
 
 slice-aggregate-copy : tie.Need-slice-aggregate-copy
 slice-aggregate-copy c = search needs
@@ -51,7 +50,7 @@ returns-3 c =
     let room = le-ltb _ _ (c7 .if2 .left) in (
       simp (h, room),
       simp (h, room)
-          (rw (c .before .before .before .before .before .text .ensures, c .before .before .before .before .before .before .is-sixty .ensures) at
+          (rw (c .before .before .before .before .before .label-of .ensures, c .before .before .before .before .before .before .is-sixty .ensures) at
           (c .before .before .copy .ensures .1)),
     )
 
@@ -63,7 +62,7 @@ write-spec =
     returns
     returns-2
     is-sixty-requires
-    text-requires
+    label-of-requires
     slice-aggregate-copy
     copy-requires
     same-length

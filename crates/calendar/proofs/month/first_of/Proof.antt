@@ -1,5 +1,4 @@
 -- `calendar::month::first_of` meets its contract: its closed form is the first day of each month.
--- Assumes nothing.
 use borrow.Author.Needs.{needs}
 use Rattle.calendar.proofs.Closed.{first-right}
 use Rattle.calendar.proofs.month.first_of.Statement.{statement}

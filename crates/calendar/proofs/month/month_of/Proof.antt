@@ -1,10 +1,9 @@
 -- `calendar::month::month_of` meets its contract: its closed form is the calendar's date at each day.
--- Assumes nothing.
 use mathlib.Core.Path.{sym}
-use Prim.Native.Nat.{_+_, _*_, _/_}
+use native.Mathlib.Omega.{arith}
 use borrow.Author.Needs.{needs}
 use Rattle.calendar.proofs.Dates.{day-fits, falls}
-use Rattle.calendar.proofs.Closed.{late-fits, date-right}
+use Rattle.calendar.proofs.Closed.{late-month, date-right}
 use Rattle.calendar.proofs.month.month_of.Statement.{statement}
 use Rattle.calendar.proofs.month.month_of.Tie as tie
 
@@ -42,7 +41,7 @@ mul-t11 : tie.Need-mul-t11
 mul-t11 c = search needs
 
 sub-t13 : tie.Need-sub-t13
-sub-t13 c = late-fits (4 * (c .args .day + 671 + (c .args .day + 17995) / 65536) + 3)
+sub-t13 c = late-month _ (omega arith)
 
 sub-t14 : tie.Need-sub-t14
 sub-t14 c = day-fits _ (sym (date-right (c .args .day) (search needs)))

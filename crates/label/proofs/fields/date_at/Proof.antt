@@ -1,5 +1,4 @@
 -- `label::fields::date_at` meets its contract: each part is what its pairs of digits say.
--- Assumes nothing.
 use native.Mathlib.Omega.{arith}
 use Rattle.label.proofs.Digits.{bounded}
 use borrow.Author.Needs.{needs}

@@ -1,5 +1,4 @@
 -- `label::fields::pair` meets its contract: the number and its last digit decide both bytes.
--- Assumes nothing.
 use borrow.Author.Needs.{needs}
 use Rattle.label.proofs.Digits.{pair-read, pair-refused}
 use Rattle.label.proofs.fields.pair.Statement.{statement}

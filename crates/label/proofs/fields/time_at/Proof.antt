@@ -1,5 +1,4 @@
 -- `label::fields::time_at` meets its contract: the time is what its three pairs of digits say.
--- Assumes nothing.
 use borrow.Author.Needs.{needs}
 use Rattle.label.proofs.fields.time_at.Statement.{statement}
 use Rattle.label.proofs.fields.time_at.Tie as tie

@@ -1,5 +1,4 @@
 -- `label::fields::time_of` meets its contract: each test refuses only what no second of a day shows.
--- Assumes nothing.
 use native.Mathlib.Omega.{arith}
 use Rattle.label.proofs.DayTime.{no-minute, minute-found, usual, day-end, no-second}
 use Rattle.label.proofs.fields.time_of.Statement.{statement}

@@ -1,12 +1,11 @@
--- `label::text::text` meets its contract: each byte is what its callee ensures.
--- Assumes nothing.
+-- `label::text::label_of` meets its contract: each byte is what its callee ensures.
 use native.Mathlib.Omega.{arith}
 use borrow.Author.Needs.{needs}
 use Rattle.label.specs.Label.{labelOf}
 use Rattle.label.proofs.Digits.{tens-of-year, units-of-year}
 use Rattle.label.proofs.Parts.{hour-of, minute-of, second-of, second-below, ranges-of}
-use Rattle.label.proofs.text.text.Statement.{statement}
-use Rattle.label.proofs.text.text.Tie as tie
+use Rattle.label.proofs.text.label_of.Statement.{statement}
+use Rattle.label.proofs.text.label_of.Tie as tie
 
 date-of-second-requires : tie.Need-date-of-second-requires
 date-of-second-requires c κs = search needs
@@ -80,8 +79,8 @@ returns c =
     let y = d .date-of-second .result .year in
     cc (hour-of s, minute-of s, second-of s, tens-of-year y, units-of-year y)
 
-pub text-spec : {M : Type 1} → statement M
-text-spec =
+pub label-of-spec : {M : Type 1} → statement M
+label-of-spec =
     tie.close
     (tie.spec
     date-of-second-requires
