@@ -1,5 +1,5 @@
 -- What the tests of `day_of` say: a date that passes them is the date of the day that is worked out, and each day's date passes them.
-use mathlib.Core.Path.{_≡_, refl, sym, ap, _∙_}
+use mathlib.Core.Path.{_≡_, refl, sym, _∙_}
 use mathlib.Core.Bool.{Bool, true, false, true≢false, not, _&&_}
 use Prim.Native.Nat.{ℕ, _+_, _-_, _≤_, _<_}
 use native.Mathlib.Omega.{arith}
@@ -10,7 +10,7 @@ use Rattle.calendar.specs.declared.Date.{Date}
 use Rattle.calendar.specs.declared.Found.the-variants.{Day, NoDay}
 use Rattle.calendar.specs.Calendar.{monthDays, dateOf, days}
 use Rattle.calendar.specs.Search.{FoundAs, found, none, firstDay}
-use Rattle.calendar.proofs.Dates.{on, Sound, sound, one-day, in-month, same-parts}
+use Rattle.calendar.proofs.Dates.{on, sound, one-day, in-month, same-parts}
 use Rattle.calendar.proofs.Closed.{until-2106, year-bound}
 
 -- ---- a number within two others, as `within` tests it

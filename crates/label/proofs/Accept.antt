@@ -2,7 +2,7 @@
 use mathlib.Core.Path.{_≡_, refl, sym, ap, _∙_}
 use mathlib.Core.Bool.{Bool, true, false, cond, true≢false, _&&_}
 use mathlib.Core.List.{List}
-use Prim.Native.Nat.{ℕ, _+_, _*_, _/_, _%_, _≤_, _<_}
+use Prim.Native.Nat.{ℕ, _+_, _*_, _/_, _%_, _<_}
 use native.Mathlib.Omega.{arith}
 use borrow.Author.Tests.{eqb-true, eqb-false, eq-eqb, le-leb, ltb-true, ltb-false}
 use lib.Dec.{eqb, ltb, leb}
@@ -13,14 +13,13 @@ use Rattle.clock.specs.State.{inRange, freshClock, lastSecond, statusOop, statu
 use Rattle.clock.proofs.Ok.{ok}
 use Rattle.calendar.specs.declared.Date.{Date}
 use Rattle.calendar.specs.declared.Found.the-variants.{Day, NoDay}
-use Rattle.calendar.specs.Calendar.{dateOf, days}
 use Rattle.calendar.specs.Search.{FoundAs, found, none}
 use Rattle.calendar.proofs.Dates.{one-day}
 use Rattle.label.specs.declared.Answer.{Answer}
 use Rattle.label.specs.declared.fields.Time.the-variants.{At, NoTime}
-use Rattle.label.specs.Label.{labelOf, isSixty, clockLabel}
+use Rattle.label.specs.Label.{labelOf, isSixty}
 use Rattle.label.specs.Reading.{WrittenFor, ReadsAs, accepted, refused}
-use Rattle.label.specs.Steps.{pairAt, isMarked, dateAt, Shows, ShownBy, shown, unshown}
+use Rattle.label.specs.Steps.{pairAt, isMarked, dateAt, ShownBy, shown, unshown}
 use Rattle.label.proofs.Bytes.{Says, says, written}
 use Rattle.label.proofs.DayTime.{shown-once}
 

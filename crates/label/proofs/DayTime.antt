@@ -32,14 +32,14 @@ shown-once {sixty = x} {sixty′ = x′} w w′ = shown-once-by x x′ w w′
 
 -- ---- the tests
 
+pub minute-found : (h m : ℕ) → ltb 23 h || ltb 59 m ≡ false → (h ≤ 23) × (m ≤ 59)
+minute-found h m e = let p = or-false (ltb 23 h) (ltb 59 m) e in (ltb-false 23 h (p .0), ltb-false 59 m (p .1))
+
 module _ (h m s : ℕ) where
   pub no-minute : ltb 23 h || ltb 59 m ≡ true → ShownBy h m s NoTime
   no-minute e = unshown (λ t sixty w.
       true≢false
       (sym e ∙ rw (le-ltb 23 h (omega (arith, w .hour, w .within)), le-ltb 59 m (omega (arith, w .minute)))))
-
-  pub minute-found : ltb 23 h || ltb 59 m ≡ false → (h ≤ 23) × (m ≤ 59)
-  minute-found e = let p = or-false (ltb 23 h) (ltb 59 m) e in (ltb-false 23 h (p .0), ltb-false 59 m (p .1))
 
   module _ (minute : (h ≤ 23) × (m ≤ 59)) where
     pub usual : s < 60 → ShownBy h m s (At (60 * (60 * h + m) + s) false)

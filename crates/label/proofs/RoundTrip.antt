@@ -4,14 +4,13 @@ use mathlib.Core.Path.{_≡_, refl, sym, ap, _∙_}
 use mathlib.Core.Bool.{Bool, true, false, not, cond, true≢false}
 use mathlib.Core.Logic.{_↔_}
 use mathlib.Core.List.{List, [], _∷_, _++_}
-use Prim.Native.Nat.{ℕ, _/_, _%_, _<_}
+use Prim.Native.Nat.{ℕ, _/_, _<_}
 use native.Mathlib.Omega.{arith}
-use lib.Dec.{eqb, ltb}
+use lib.Dec.{ltb}
 use lib.ListN.{length, take, drop}
 use lib.Seq.{take-at}
 use Rattle.clock.specs.declared.state.Clock.{Clock}
 use Rattle.clock.specs.State.{inRange}
-use Rattle.calendar.specs.Calendar.{dateOf}
 use Rattle.calendar.proofs.Dates.{on, one-day}
 use Rattle.calendar.proofs.Closed.{date-right}
 use Rattle.label.specs.declared.Answer.{Answer}
@@ -85,17 +84,20 @@ accepted-iff (refused f) = ((λ e. absurd (omega arith)), (λ p. absurd (f (p .0
 -- ---- examples of document 01
 
 -- 951,782,400 is 2000-02-29T00:00:00Z
-leap-day : labelOf 951782400 false ≡ 50 ∷ 48 ∷ 48 ∷ 48 ∷ 45 ∷ 48 ∷ 50 ∷ 45 ∷ 50 ∷ 57 ∷ 84 ∷ 48 ∷ 48 ∷ 58 ∷ 48 ∷ 48 ∷ 58 ∷ 48 ∷ 48 ∷ 90 ∷ []
+leap-day : labelOf 951782400 false ≡ 50 ∷ 48 ∷ 48 ∷ 48 ∷ 45 ∷ 48 ∷ 50 ∷ 45 ∷ 50 ∷ 57 ∷
+    84 ∷ 48 ∷ 48 ∷ 58 ∷ 48 ∷ 48 ∷ 58 ∷ 48 ∷ 48 ∷ 90 ∷ []
 unfolding labelOf
 leap-day = rw (← date-right 11016 (omega arith))
 
 -- 4,294,967,295, the last second, is 2106-02-07T06:28:15Z
-last-label : labelOf 4294967295 false ≡ 50 ∷ 49 ∷ 48 ∷ 54 ∷ 45 ∷ 48 ∷ 50 ∷ 45 ∷ 48 ∷ 55 ∷ 84 ∷ 48 ∷ 54 ∷ 58 ∷ 50 ∷ 56 ∷ 58 ∷ 49 ∷ 53 ∷ 90 ∷ []
+last-label : labelOf 4294967295 false ≡ 50 ∷ 49 ∷ 48 ∷ 54 ∷ 45 ∷ 48 ∷ 50 ∷ 45 ∷ 48 ∷ 55 ∷
+    84 ∷ 48 ∷ 54 ∷ 58 ∷ 50 ∷ 56 ∷ 58 ∷ 49 ∷ 53 ∷ 90 ∷ []
 unfolding labelOf
 last-label = rw (← date-right 49710 (omega arith))
 
 -- the inserted second of the first day is 1970-01-01T23:59:60Z
-inserted : labelOf 86399 true ≡ 49 ∷ 57 ∷ 55 ∷ 48 ∷ 45 ∷ 48 ∷ 49 ∷ 45 ∷ 48 ∷ 49 ∷ 84 ∷ 50 ∷ 51 ∷ 58 ∷ 53 ∷ 57 ∷ 58 ∷ 54 ∷ 48 ∷ 90 ∷ []
+inserted : labelOf 86399 true ≡ 49 ∷ 57 ∷ 55 ∷ 48 ∷ 45 ∷ 48 ∷ 49 ∷ 45 ∷ 48 ∷ 49 ∷
+    84 ∷ 50 ∷ 51 ∷ 58 ∷ 53 ∷ 57 ∷ 58 ∷ 54 ∷ 48 ∷ 90 ∷ []
 unfolding labelOf
 inserted = rw (← date-right 0 (omega arith))
 
@@ -110,7 +112,8 @@ past-end {text} t sixty d w late a =
 
 -- 2106-02-07T06:28:16Z, a second past the last label
 one-past : {r : Answer}
-    → ReadsAs (50 ∷ 49 ∷ 48 ∷ 54 ∷ 45 ∷ 48 ∷ 50 ∷ 45 ∷ 48 ∷ 55 ∷ 84 ∷ 48 ∷ 54 ∷ 58 ∷ 50 ∷ 56 ∷ 58 ∷ 49 ∷ 54 ∷ 90 ∷ []) r → r ≡ noLabel
+    → ReadsAs (50 ∷ 49 ∷ 48 ∷ 54 ∷ 45 ∷ 48 ∷ 50 ∷ 45 ∷ 48 ∷ 55 ∷
+    84 ∷ 48 ∷ 54 ∷ 58 ∷ 50 ∷ 56 ∷ 58 ∷ 49 ∷ 54 ∷ 90 ∷ []) r → r ≡ noLabel
 unfolding pairOf
 one-past =
     past-end 23296 false refl
@@ -119,6 +122,7 @@ one-past =
 
 -- 2106-02-07T23:59:60Z
 no-sixty : {r : Answer}
-    → ReadsAs (50 ∷ 49 ∷ 48 ∷ 54 ∷ 45 ∷ 48 ∷ 50 ∷ 45 ∷ 48 ∷ 55 ∷ 84 ∷ 50 ∷ 51 ∷ 58 ∷ 53 ∷ 57 ∷ 58 ∷ 54 ∷ 48 ∷ 90 ∷ []) r → r ≡ noLabel
+    → ReadsAs (50 ∷ 49 ∷ 48 ∷ 54 ∷ 45 ∷ 48 ∷ 50 ∷ 45 ∷ 48 ∷ 55 ∷
+    84 ∷ 50 ∷ 51 ∷ 58 ∷ 53 ∷ 57 ∷ 58 ∷ 54 ∷ 48 ∷ 90 ∷ []) r → r ≡ noLabel
 unfolding pairOf
 no-sixty = past-end 86399 true refl (record { within = omega arith; last = λ _. refl; hour = refl; minute = refl; second = refl }) (omega arith)

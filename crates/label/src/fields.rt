@@ -1,6 +1,6 @@
 // The fields of twenty bytes that may be a label: each is judged on its own, and none is trusted.
 ghost use mathlib.Core.Path.{_≡_};
-ghost use Prim.Native.Nat.{ℕ, _+_, _<_};
+ghost use Prim.Native.Nat.{_+_, _<_};
 ghost use lib.ListN.{length};
 ghost use Rattle.label.specs.Steps.{pairOf, pairAt, isMarked, dateAt, ShownBy};
 use calendar::Date;

@@ -1,6 +1,5 @@
 -- `calendar::day_of` meets its contract: each test refuses only what is no day's date, and what passes all is the day that is found.
 use borrow.Author.Needs.{needs}
-use borrow.Author.Tests.{ltb-true, ltb-false}
 use native.Mathlib.Omega.{arith}
 use Rattle.calendar.proofs.Dates.{month-length}
 use Rattle.calendar.proofs.Search.{passed, no-year, no-month, no-day, first-below, is-found, too-late}

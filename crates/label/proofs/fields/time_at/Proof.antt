@@ -34,7 +34,10 @@ time-of-requires : tie.Need-time-of-requires
 time-of-requires c κs = search needs
 
 returns : tie.Need-returns
-returns c = rw (c .before .before .before .before .before .before .before .pair .ensures, c .before .before .before .before .pair2 .ensures, c .before .pair3 .ensures) at (c .time-of .ensures)
+returns c =
+    let hour = c .before .before .before .before .before .before .before .pair .ensures in
+    let minute = c .before .before .before .before .pair2 .ensures in
+    rw (hour, minute, c .before .pair3 .ensures) at (c .time-of .ensures)
 
 pub time-at-spec : {M : Type 1} → statement M
 time-at-spec =
