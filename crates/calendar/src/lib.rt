@@ -9,6 +9,9 @@ ghost use Prim.Native.Nat.{_/_};
 ghost use Rattle.calendar.specs.Calendar.{dateOf};
 ghost use Rattle.calendar.specs.Search.{FoundAs};
 
+// The days that 2^32 seconds reach; the last, 7 February 2106, is not whole.
+pub const DAYS: u32 = 49711;
+
 // A year such as 1970, its month from 1 to 12, its day from 1 to 31. Any numbers may be handed in: `day_of` judges them.
 pub struct Date {
     pub year: u32,
@@ -58,7 +61,7 @@ pub fn day_of(d: Date) -> Found
         return Found::NoDay;
     }
     let day = month::first_of(year, m) + (d.day - 1);
-    if day < 49711 {
+    if day < DAYS {
         Found::Day(day)
     } else {
         Found::NoDay

@@ -12,8 +12,8 @@ use crate::fields::Time;
 use calendar::Found;
 use clock::state::Clock;
 
-// The last day that a u32 of seconds reaches, 7 February 2106, and the second of that day at which it ends, 06:28:15.
-const LAST_DAY: u32 = 49710;
+// The last second is one of the last day, at 06:28:15: second 23,295 of that day.
+const LAST_DAY: u32 = calendar::DAYS - 1;
 
 const LAST_DAY_END: u32 = 23295;
 
