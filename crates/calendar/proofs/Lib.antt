@@ -1,0 +1,4 @@
+pub mod Every
+pub mod Dates
+pub mod Closed
+pub mod Search

@@ -1,0 +1,41 @@
+-- The hour, minute and second of a second, and the ranges of its date.
+use mathlib.Core.Path.{_≡_}
+use mathlib.Core.Bool.{Bool, true, false, cond}
+use Prim.Native.Nat.{ℕ, _-_, _/_, _%_, _≤_, _<_}
+use native.Mathlib.Omega.{arith}
+use native.Mathlib.Nat.{div-div-eq-div-mul}
+use Rattle.calendar.specs.declared.Date.{Date}
+use Rattle.calendar.specs.Calendar.{dateOf, days}
+use Rattle.calendar.proofs.Dates.{Sound, sound, month-length}
+use Rattle.calendar.proofs.Closed.{year-bound}
+
+-- ---- the time of a day
+
+pub hour-of : (s : ℕ) → s % 86400 / 60 / 60 ≡ s / 3600 % 24
+hour-of s = omega (arith, div-div-eq-div-mul (s % 86400) 60 60)
+
+pub minute-of : (s : ℕ) → s % 86400 / 60 % 60 ≡ s / 60 % 60
+minute-of s = omega arith
+
+pub second-of : (s : ℕ) → s % 86400 % 60 ≡ s % 60
+second-of s = omega arith
+
+pub second-below : (s : ℕ) (sixty : Bool) → cond sixty 60 (s % 86400 % 60) < 100
+second-below s true = omega arith
+second-below s false = omega arith
+
+-- ---- the date
+
+pub record Ranges (d : Date) : Type 0 where
+  pub year : (1970 ≤ d .year) × (d .year ≤ 2106)
+  pub month : (1 ≤ d .month) × (d .month ≤ 12)
+  pub day : (1 ≤ d .day) × (d .day ≤ 31)
+
+pub ranges : (n : ℕ) → n < days → Ranges (dateOf n)
+ranges n h =
+    let s : Sound (dateOf n) = sound n in
+    let long = month-length (dateOf n .year) (dateOf n .month) in
+    record { year = (s .years, year-bound n h); month = s .months; day = (s .days .0, omega (arith, s .days .1)) }
+
+pub ranges-of : (s : ℕ) {d : Date} → s < 4294967296 → d ≡ dateOf (s / 86400) → Ranges d
+ranges-of s h e = rw e (ranges (s / 86400) (omega arith))

@@ -1,0 +1,4 @@
+pub mod Label
+pub mod Writing
+pub mod Reading
+pub mod Steps

@@ -1,0 +1,20 @@
+-- What the reader answers.
+use mathlib.Core.Path.{_≡_}
+use mathlib.Core.Bool.{true, false}
+use mathlib.Core.List.{List}
+use Prim.Native.Nat.{ℕ}
+use Rattle.clock.specs.declared.state.Clock.{Clock}
+use Rattle.clock.specs.State.{inRange}
+use Rattle.label.specs.declared.Answer.{Answer}
+use Rattle.label.specs.Label.{isSixty, clockLabel}
+
+-- the bytes are what the writer writes for the clock c
+pub record WrittenFor (c : Clock) (text : List ℕ) : Type 0 where
+  pub sound : inRange c ≡ true
+  pub bytes : text ≡ clockLabel c
+
+-- "The reader accepts exactly the strings of twenty bytes that the writer can write, and gives seconds and whether it was a 60";
+-- 15 "not a label", and "a refused label second 0 and no 60"
+pub data ReadsAs (text : List ℕ) : Answer → Type 0 where
+  accepted : {c : Clock} → WrittenFor c text → ReadsAs text (record { refusal = 0; seconds = c .seconds; sixty = isSixty c })
+  refused : ((c : Clock) → WrittenFor c text → ⊥) → ReadsAs text (record { refusal = 15; seconds = 0; sixty = false })

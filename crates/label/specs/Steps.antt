@@ -1,0 +1,47 @@
+-- The steps of the reader, as the contracts of its private functions name them. No public promise rests on these.
+use mathlib.Core.Path.{_≡_}
+use mathlib.Core.Bool.{Bool, true, cond, _&&_}
+use mathlib.Core.List.{List}
+use Prim.Native.Nat.{ℕ, _+_, _*_, _-_, _/_, _%_, _<_}
+use lib.Dec.{leb, eqb}
+use lib.ListN.{getD}
+use Rattle.calendar.specs.declared.Date.{Date}
+use Rattle.label.specs.declared.fields.Time.{Time}
+use Rattle.label.specs.declared.fields.Time.the-variants.{At, NoTime}
+
+abbrev pub isDigit : ℕ → Bool
+isDigit b = leb 48 b && leb b 57
+
+-- the number of two digits; 10,000, more than any four digits say, where a byte is none
+unfoldable pub pairOf : ℕ → ℕ → ℕ
+pairOf tens units = cond (isDigit tens && isDigit units) (10 * (tens - 48) + (units - 48)) 10000
+
+abbrev pub pairAt : List ℕ → ℕ → ℕ
+pairAt text i = pairOf (getD text i 0) (getD text (i + 1) 0)
+
+-- the six bytes between the digits
+abbrev pub isMarked : List ℕ → Bool
+isMarked text =
+    eqb (getD text 4 0) 45
+    && eqb (getD text 7 0) 45
+    && eqb (getD text 10 0) 84
+    && eqb (getD text 13 0) 58
+    && eqb (getD text 16 0) 58
+    && eqb (getD text 19 0) 90
+
+-- the date that the digits say, if they are digits
+abbrev pub dateAt : List ℕ → Date
+dateAt text = record { year = 100 * pairAt text 0 + pairAt text 2; month = pairAt text 5; day = pairAt text 8 }
+
+-- the second t of a day, with a 60 or without, shows this hour, minute and second
+pub record Shows (t : ℕ) (sixty : Bool) (h m s : ℕ) : Type 0 where
+  pub within : t < 86400
+  pub last : sixty ≡ true → t ≡ 86399
+  pub hour : h ≡ t / 3600
+  pub minute : m ≡ t / 60 % 60
+  pub second : s ≡ cond sixty 60 (t % 60)
+
+-- the second of the day that shows this hour, minute and second, or that none does
+pub data ShownBy (h m s : ℕ) : Time → Type 0 where
+  shown : {t : ℕ} {sixty : Bool} → Shows t sixty h m s → ShownBy h m s (At t sixty)
+  unshown : ((t : ℕ) (sixty : Bool) → Shows t sixty h m s → ⊥) → ShownBy h m s NoTime

@@ -1,0 +1,83 @@
+// The fields of twenty bytes that may be a label: each is judged on its own, and none is trusted.
+ghost use mathlib.Core.Path.{_≡_};
+ghost use Prim.Native.Nat.{_+_, _<_};
+ghost use lib.ListN.{length};
+ghost use Rattle.label.specs.Steps.{pairOf, pairAt, isMarked, dateAt, ShownBy};
+use calendar::Date;
+
+// The number of two decimal digits; 10,000 where a byte is no digit.
+fn pair(tens: u8, units: u8) -> u32
+    ensures { λ r. ⌜ r ≡ pairOf tens units ⌝ }
+{
+    // 10 t + u with a digit u is below 100 for a digit t alone, so the first byte needs no test of its own.
+    let n = std::num::wrapping_sub_u32(10 * (tens as u32) + (units as u32), 528);
+    let unit = std::num::wrapping_sub_u32(units as u32, 48);
+    if (n < 100) & (unit < 10) { n } else { 10000 }
+}
+
+// Whether the bytes between the digits are a label's.
+pub(crate) fn is_marked(text: &[u8]) -> bool
+    requires { ⌜ length (now text) ≡ 20 ⌝ }
+    ensures { λ r. ⌜ r ≡ isMarked (now (text .entry)) ⌝ }
+{
+    (text[4] == b'-')
+        & (text[7] == b'-')
+        & (text[10] == b'T')
+        & (text[13] == b':')
+        & (text[16] == b':')
+        & (text[19] == b'Z')
+}
+
+// The date that the digits say. A part that is not in digits is 10,000 or more.
+pub(crate) fn date_at(text: &[u8]) -> Date
+    requires { ⌜ length (now text) ≡ 20 ⌝ }
+    ensures { λ r. ⌜ r ≡ dateAt (now (text .entry)) ⌝ }
+{
+    Date {
+        year: 100 * pair(text[0], text[1]) + pair(text[2], text[3]),
+        month: pair(text[5], text[6]),
+        day: pair(text[8], text[9]),
+    }
+}
+
+pub enum Time {
+    // A second of a day, and whether it was shown as the 60 that repeats the last one.
+    At { second: u32, sixty: bool },
+    NoTime,
+}
+
+// The second of a day that an hour, a minute and a second show.
+fn time_of(hour: u32, minute: u32, second: u32) -> Time
+    ensures { λ r. ⌜ ShownBy hour minute second r ⌝ }
+{
+    if (23 < hour) | (59 < minute) {
+        return Time::NoTime;
+    }
+    let minutes = 60 * hour + minute;
+    if second < 60 {
+        return Time::At {
+            second: 60 * minutes + second,
+            sixty: false,
+        };
+    }
+    if (second == 60) & (minutes == 1439) {
+        Time::At {
+            second: 86399,
+            sixty: true,
+        }
+    } else {
+        Time::NoTime
+    }
+}
+
+// The second of a day that the digits say.
+pub(crate) fn time_at(text: &[u8]) -> Time
+    requires { ⌜ length (now text) ≡ 20 ⌝ }
+    ensures { λ r. ⌜ ShownBy (pairAt (now (text .entry)) 11) (pairAt (now (text .entry)) 14) (pairAt (now (text .entry)) 17) r ⌝ }
+{
+    time_of(
+        pair(text[11], text[12]),
+        pair(text[14], text[15]),
+        pair(text[17], text[18]),
+    )
+}

@@ -1,0 +1,88 @@
+// UTC labels, `1970-01-01T00:00:00Z` to `2106-02-07T06:28:15Z`: `write` fills a lent buffer with a clock's label, and `read`
+// accepts exactly what `write` can write. Both take constant time.
+mod fields;
+mod text;
+
+ghost use mathlib.Core.Path.{_≡_};
+ghost use mathlib.Core.Bool.{Bool};
+ghost use Rattle.label.specs.Label.{isSixty};
+ghost use Rattle.label.specs.Writing.{writeRefusal, writtenTo};
+ghost use Rattle.label.specs.Reading.{ReadsAs};
+use crate::fields::Time;
+use calendar::Found;
+use clock::state::Clock;
+
+// The last second is one of the last day, at 06:28:15: second 23,295 of that day.
+const LAST_DAY: u32 = calendar::DAYS - 1;
+
+const LAST_DAY_END: u32 = 23295;
+
+// Whether the clock's second reads 60: an inserted second is in progress (status OOP) at a day's end.
+fn is_sixty(c: Clock) -> bool
+    ensures { λ r. ⌜ r ≡ isSixty c ⌝ }
+{
+    (c.status == 3) & (c.seconds % 86400 == 86399)
+}
+
+// Writes the clock's label into the first twenty bytes of `out`, and leaves the later ones. Answers 0; or refusal 1 for a clock
+// out of range, then 14 for a buffer of fewer than twenty bytes, and leaves the buffer as it was.
+pub fn write(c: Clock, out: &mut [u8]) -> u8
+    ensures { λ r. ⌜ r ≡ writeRefusal c (now (out .entry)) ⌝ }
+    ensures { λ _. ⌜ now (out .exit) ≡ writtenTo c (now (out .entry)) ⌝ }
+{
+    if !clock::state::in_range(c) {
+        return 1;
+    }
+    if out.len() < 20 {
+        return 14;
+    }
+    let label = text::label_of(c.seconds, is_sixty(c));
+    bytes::copy(&label, out);
+    0
+}
+
+// The answer of `read`: refusal 0 with the second and whether it was a 60, which repeats the 59 before it; or refusal 15 with
+// second 0 and no 60.
+pub struct Answer {
+    pub refusal: u8,
+    pub seconds: u32,
+    pub sixty: bool,
+}
+
+fn not_a_label() -> Answer
+    ensures { λ r. ⌜ r ≡ record { refusal = 15; seconds = 0; sixty = Bool.false } ⌝ }
+{
+    Answer {
+        refusal: 15,
+        seconds: 0,
+        sixty: false,
+    }
+}
+
+// Reads a label.
+pub fn read(text: &[u8]) -> Answer
+    ensures { λ r. ⌜ ReadsAs (now (text .entry)) r ⌝ }
+{
+    if text.len() != 20 {
+        return not_a_label();
+    }
+    if !fields::is_marked(text) {
+        return not_a_label();
+    }
+    let found = calendar::day_of(fields::date_at(text));
+    let Found::Day(day) = found else {
+        return not_a_label();
+    };
+    let time = fields::time_at(text);
+    let Time::At { second, sixty } = time else {
+        return not_a_label();
+    };
+    if (day == LAST_DAY) & (LAST_DAY_END < second) {
+        return not_a_label();
+    }
+    Answer {
+        refusal: 0,
+        seconds: 86400 * day + second,
+        sixty: sixty,
+    }
+}
