@@ -27,7 +27,7 @@ use Rattle.request.proofs.RequestCases as req
 use Rattle.event.specs.declared.event.Event.{Event}
 use Rattle.event.specs.declared.event.Event.the-variants as call
 use Rattle.bounds.specs.Calls.{next, after}
-use Rattle.bounds.specs.Book.{Book, emptyBook, tickEntered, leapEntered, rolloverEntered, requestEntered, entered, kept}
+use Rattle.bounds.specs.Book.{Book, emptyBook, tickBook, leapExact, rolloverBook, requestBook, callBook, bookFrom}
 use Rattle.bounds.proofs.Runs.{fresh-ok}
 
 -- what a reading of the clock tells (us)
@@ -61,11 +61,11 @@ module _ (c : Clock) (b : Book) (i : Inv c b) where
   total-diff : Diff (total c) (4294967296 * told c + 16 * posPart (c .phase .0)) (0 + 16 * negPart (c .phase .0))
   total-diff = add (lit (4294967296 * told c)) (times 16 (self (c .phase .0)))
 
-  exact-diff : Diff (tickEntered b .exact) (posPart (b .exact) + 16777216000000 + posPart (b .frequency) + 1024 * posPart (b .share)) (negPart (b .exact) + 0 + negPart (b .frequency) + 1024 * negPart (b .share))
+  exact-diff : Diff (tickBook b .exact) (posPart (b .exact) + 16777216000000 + posPart (b .frequency) + 1024 * posPart (b .share)) (negPart (b .exact) + 0 + negPart (b .frequency) + 1024 * negPart (b .share))
   exact-diff = add (add (add (self (b .exact)) (lit 16777216000000)) (self (b .frequency))) (times 1024 (self (b .share)))
 
   -- a tick that does not roll over
-  plain-near : Near (total (advanced c (microsGrown c))) (tickEntered b .exact) (15 * (b .n + 1))
+  plain-near : Near (total (advanced c (microsGrown c))) (tickBook b .exact) (15 * (b .n + 1))
   plain-near =
       let d = add (lit (4294967296 * told (advanced c (microsGrown c)))) (times 16 left-diff) in
       let r = rate-diff (c .adjustment .0) (b .share) (b .frequency) (i .rate) in
@@ -78,7 +78,7 @@ module _ (c : Clock) (b : Book) (i : Inv c b) where
 record Leapt (c : Clock) (x : ℤ) (p n : ℕ) : Type 0 where
   pub up : ℕ
   pub down : ℕ
-  pub exact : Diff (leapEntered c x) (p + up) (n + down)
+  pub exact : Diff (leapExact c x) (p + up) (n + down)
   pub second : leapSeconds (c .status) (c .seconds + 1) * 4294967296000000 + down ≡ (c .seconds + 1) * 4294967296000000 + up
 
 leapt : (c : Clock) {x : ℤ} {p n : ℕ} → Diff x p n → LeapCase (c .status) (c .seconds + 1) → Leapt c x p n
@@ -91,7 +91,7 @@ module _ (c : Clock) (b : Book) (i : Inv c b) (h : 1000000 ≤ microsGrown c) wh
   later = advanced c (microsGrown c - 1000000)
 
   -- a tick that rolls over
-  roll-near : Near (total (rolledOver later)) (rolloverEntered c (tickEntered b) .exact) (15 * (b .n + 1))
+  roll-near : Near (total (rolledOver later)) (rolloverBook c (tickBook b) .exact) (15 * (b .n + 1))
   unfolding rolledOver
   roll-near =
       let d = add (lit (4294967296 * told (rolledOver later))) (times 16 (left-diff c b i)) in
@@ -107,7 +107,7 @@ pub not-zero : (n : ℕ) → 0 < n → eqb n 0 ≡ false
 not-zero n h = ne-eqb n 0 (λ e. omega arith)
 
 module _ (c : Clock) (b : Book) (i : Inv c b) where
-  tick-inv : TickCase c → Inv (tickOf c .clock) (entered c call.Tick b)
+  tick-inv : TickCase c → Inv (tickOf c .clock) (callBook c call.Tick b)
   unfolding rolledOver
   tick-inv (out t e) = simp e i
   tick-inv (last k l e) = simp e i
@@ -120,30 +120,30 @@ module _ (c : Clock) (b : Book) (i : Inv c b) where
         near = roll-near c b i l;
       })
 
-  set-inv : (s : ℕ) (u : AskedMicros) → SettingCase c s u → Inv (settingOf c s u .clock) (entered c (call.Setting s u) b)
+  set-inv : (s : ℕ) (u : AskedMicros) → SettingCase c s u → Inv (settingOf c s u .clock) (callBook c (call.Setting s u) b)
   set-inv s u (refused n e h) = simp (e, not-zero n h) i
   set-inv s u (done k e) = simp e (record { range = k; rate = refl; near = record { high = omega arith; low = omega arith } })
 
   -- a request leaves time, share and frequency in force
-  requested-inv : (r : Request) (o : Bool) → selectsOffset r ≡ o → Ok (requested c r) → Inv (requested c r) (requestEntered r b)
+  requested-inv : (r : Request) (o : Bool) → selectsOffset r ≡ o → Ok (requested c r) → Inv (requested c r) (requestBook r b)
   unfolding requested
   requested-inv r true t k = simp t (record { range = simp t at k; rate = i .rate; near = i .near })
   requested-inv r false t k = simp t (record { range = simp t at k; rate = i .rate; near = i .near })
 
-  request-inv : (r : Request) → req.RequestCase c r → Inv (requestOf c r .clock) (entered c (call.Request r) b)
+  request-inv : (r : Request) → req.RequestCase c r → Inv (requestOf c r .clock) (callBook c (call.Request r) b)
   request-inv r (req.refused n e h) = simp (e, not-zero n h) i
   request-inv r (req.done a e) = simp e (requested-inv r (selectsOffset r) refl (requested-ok c r a))
 
-  pub step-inv : (e : Event) → Inv (next c e) (entered c e b)
+  pub step-inv : (e : Event) → Inv (next c e) (callBook c e b)
   step-inv call.Tick = tick-inv (tickCase c)
   step-inv (call.Setting s u) = set-inv s u (settingCase c s u)
   step-inv (call.Request r) = request-inv r (req.requestCase c r)
   step-inv call.Reading = i
 
-pub run-inv : (c : Clock) (b : Book) (es : List Event) → Inv c b → Inv (after c es) (kept c b es)
-unfolding after kept
+pub run-inv : (c : Clock) (b : Book) (es : List Event) → Inv c b → Inv (after c es) (bookFrom c b es)
+unfolding after bookFrom
 run-inv c b [] i = i
-run-inv c b (e ∷ es) i = run-inv (next c e) (entered c e b) es (step-inv c b i e)
+run-inv c b (e ∷ es) i = run-inv (next c e) (callBook c e b) es (step-inv c b i e)
 
 pub fresh-inv : Inv freshClock emptyBook
 fresh-inv = record { range = fresh-ok; rate = refl; near = record { high = omega arith; low = omega arith } }

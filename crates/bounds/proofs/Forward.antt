@@ -20,8 +20,8 @@ use Rattle.request.specs.declared.request.Request.{Request}
 use Rattle.request.proofs.RequestCases as req
 use Rattle.event.specs.declared.event.Event.{Event}
 use Rattle.event.specs.declared.event.Event.the-variants as call
-use Rattle.bounds.specs.Calls.{next, after, ticks, breaks, ticksAmong, unbroken}
-use Rattle.bounds.specs.Book.{Book, entered}
+use Rattle.bounds.specs.Calls.{next, after, ticks, setsOrInserts, ticksAmong, neitherSetNorInserted}
+use Rattle.bounds.specs.Book.{Book, callBook}
 use Rattle.bounds.specs.Demand.{leastTick}
 use Rattle.bounds.proofs.Exact.{told, Inv, step-inv, not-zero}
 
@@ -36,7 +36,7 @@ module _ (c : Clock) (k : Ok c) where
   grown-least : c .micros .0 + leastTick ≤ microsGrown c
   grown-least = omega (arith, grown-eq c k, carry-parts c k)
 
-  tick-forward : TickCase c → breaks c call.Tick ≡ false → told c + leastTick * cond (ticks c call.Tick) 1 0 ≤ told (tickOf c .clock)
+  tick-forward : TickCase c → setsOrInserts c call.Tick ≡ false → told c + leastTick * cond (ticks c call.Tick) 1 0 ≤ told (tickOf c .clock)
   unfolding rolledOver
   tick-forward (out t e) h = simp e (omega arith)
   tick-forward (last k l e) h = simp e (omega arith)
@@ -45,7 +45,7 @@ module _ (c : Clock) (k : Ok c) where
       let i : inserts (c .status) (c .seconds + 1) ≡ false = simp (e, t) at h in
       simp e (omega (arith, grown-least, leap-least (c .status) (c .seconds + 1) (leapCase (c .status) (c .seconds + 1)) i))
 
-  set-forward : (s : ℕ) (u : AskedMicros) → SettingCase c s u → breaks c (call.Setting s u) ≡ false → told c + leastTick * 0 ≤ told (settingOf c s u .clock)
+  set-forward : (s : ℕ) (u : AskedMicros) → SettingCase c s u → setsOrInserts c (call.Setting s u) ≡ false → told c + leastTick * 0 ≤ told (settingOf c s u .clock)
   set-forward s u (refused n e p) h = simp e (omega arith)
   set-forward s u (done o e) h = absurd (true≢false (simp e at h))
 
@@ -54,7 +54,7 @@ module _ (c : Clock) (k : Ok c) where
   request-forward r (req.refused n e p) = simp e (omega arith)
   request-forward r (req.done a e) = simp e (omega arith)
 
-  step-forward : (e : Event) → breaks c e ≡ false → told c + leastTick * cond (ticks c e) 1 0 ≤ told (next c e)
+  step-forward : (e : Event) → setsOrInserts c e ≡ false → told c + leastTick * cond (ticks c e) 1 0 ≤ told (next c e)
   step-forward call.Tick h = tick-forward (tickCase c) h
   step-forward (call.Setting s u) h = set-forward s u (settingCase c s u) h
   step-forward (call.Request r) h = request-forward r (req.requestCase c r)
@@ -64,11 +64,11 @@ not-true' : (b : Bool) → not b ≡ true → b ≡ false
 not-true' true e = absurd (false≢true e)
 not-true' false e = refl
 
-pub forward : (c : Clock) (b : Book) (es : List Event) → Inv c b → unbroken c es ≡ true → told c + leastTick * ticksAmong c es ≤ told (after c es)
-unfolding after unbroken ticksAmong
+pub forward : (c : Clock) (b : Book) (es : List Event) → Inv c b → neitherSetNorInserted c es ≡ true → told c + leastTick * ticksAmong c es ≤ told (after c es)
+unfolding after neitherSetNorInserted ticksAmong
 forward c b [] i h = omega arith
 forward c b (e ∷ es) i h =
-    let p = and-true (not (breaks c e)) (unbroken (next c e) es) h in
-    let one = step-forward c (i .range) e (not-true' (breaks c e) (p .0)) in
-    let rest = forward (next c e) (entered c e b) es (step-inv c b i e) (p .1) in
+    let p = and-true (not (setsOrInserts c e)) (neitherSetNorInserted (next c e) es) h in
+    let one = step-forward c (i .range) e (not-true' (setsOrInserts c e) (p .0)) in
+    let rest = forward (next c e) (callBook c e b) es (step-inv c b i e) (p .1) in
     omega (arith, one, rest)

@@ -25,7 +25,7 @@ use Rattle.request.proofs.RequestCases as req
 use Rattle.event.specs.declared.event.Event.{Event}
 use Rattle.event.specs.declared.event.Event.the-variants as call
 use Rattle.bounds.specs.Calls.{next, after}
-use Rattle.bounds.specs.Book.{Book, emptyBook, tickEntered, requestEntered, entered, kept}
+use Rattle.bounds.specs.Book.{Book, emptyBook, tickBook, requestBook, callBook, bookFrom}
 use Rattle.bounds.specs.Demand.{takenOff, MovedAsTaken}
 use Rattle.bounds.proofs.Exact.{Inv, left-diff, step-inv, not-zero}
 
@@ -96,9 +96,9 @@ pub record Paid (c : Clock) (b : Book) : Type 0 where
   pub mP : ℕ
   pub mN : ℕ
   pub moved : Diff (b .moved) mP mN
-  pub P : Side (posPart (b .asked)) (posPart (c .offset .0)) (posPart (b .own)) j mP
-  pub N : Side (negPart (b .asked)) (negPart (c .offset .0)) (negPart (b .own)) j mN
-  pub pace : Pace (c .micros .0) (c .phase .0) (b .own) j
+  pub P : Side (posPart (b .asked)) (posPart (c .offset .0)) (posPart (b .ownShare)) j mP
+  pub N : Side (negPart (b .asked)) (negPart (c .offset .0)) (negPart (b .ownShare)) j mN
+  pub pace : Pace (c .micros .0) (c .phase .0) (b .ownShare) j
 
 idle-ticks : (o j : ℕ) → o ≡ 0 → Ticks o j
 idle-ticks o j e = record { least = rw e (omega arith); most = rw e (omega arith) }
@@ -107,19 +107,19 @@ module _ (c : Clock) (b : Book) (i : Inv c b) where
   counted-ticks : (o j : ℕ) → Count (c .micros .0) (c .phase .0) j → 1000000 ≤ microsGrown c → Ticks o j
   counted-ticks o j h l = record { least = mul-le-mul-right o (ticks-least c b i j h l); most = mul-le-mul-right o (ticks-most c b i j h) }
 
-  ticks-P : (j : ℕ) → Pace (c .micros .0) (c .phase .0) (b .own) j → 1000000 ≤ microsGrown c → Ticks (posPart (b .own)) j
+  ticks-P : (j : ℕ) → Pace (c .micros .0) (c .phase .0) (b .ownShare) j → 1000000 ≤ microsGrown c → Ticks (posPart (b .ownShare)) j
   ticks-P j (idle p n) l = idle-ticks _ j p
   ticks-P j (counted h) l = counted-ticks _ j h l
 
-  ticks-N : (j : ℕ) → Pace (c .micros .0) (c .phase .0) (b .own) j → 1000000 ≤ microsGrown c → Ticks (negPart (b .own)) j
+  ticks-N : (j : ℕ) → Pace (c .micros .0) (c .phase .0) (b .ownShare) j → 1000000 ≤ microsGrown c → Ticks (negPart (b .ownShare)) j
   ticks-N j (idle p n) l = idle-ticks _ j n
   ticks-N j (counted h) l = counted-ticks _ j h l
 
-  pace-tick : (j : ℕ) → Pace (c .micros .0) (c .phase .0) (b .own) j → Pace (microsGrown c) (phaseLeft c) (b .own) (j + 1)
+  pace-tick : (j : ℕ) → Pace (c .micros .0) (c .phase .0) (b .ownShare) j → Pace (microsGrown c) (phaseLeft c) (b .ownShare) (j + 1)
   pace-tick j (idle p n) = idle p n
   pace-tick j (counted h) = counted (count-step c b i j h)
 
-  tick-paid : TickCase c → Paid c b → Paid (tickOf c .clock) (entered c call.Tick b)
+  tick-paid : TickCase c → Paid c b → Paid (tickOf c .clock) (callBook c call.Tick b)
   unfolding rolledOver
   tick-paid (out t e) p = simp e p
   tick-paid (last k l e) p = simp e p
@@ -127,9 +127,9 @@ module _ (c : Clock) (b : Book) (i : Inv c b) where
       simp (e, t)
       (record {
         j = p .j + 1;
-        mP = p .mP + posPart (b .own);
-        mN = p .mN + negPart (b .own);
-        moved = add (p .moved) (self (b .own));
+        mP = p .mP + posPart (b .ownShare);
+        mN = p .mN + negPart (b .ownShare);
+        moved = add (p .moved) (self (b .ownShare));
         P = side-tick (p .P);
         N = side-tick (p .N);
         pace = pace-tick (p .j) (p .pace);
@@ -138,19 +138,19 @@ module _ (c : Clock) (b : Book) (i : Inv c b) where
       simp (e, t)
       (record {
         j = 0;
-        mP = p .mP + posPart (b .own);
-        mN = p .mN + negPart (b .own);
-        moved = add (p .moved) (self (b .own));
+        mP = p .mP + posPart (b .ownShare);
+        mN = p .mN + negPart (b .ownShare);
+        moved = add (p .moved) (self (b .ownShare));
         P = side-roll (posPart (offsetLeft c)) (posPart (share c)) (rest-posPart c k) (ticks-P (p .j) (p .pace) l) (p .P);
         N = side-roll (negPart (offsetLeft c)) (negPart (share c)) (rest-negPart c k) (ticks-N (p .j) (p .pace) l) (p .N);
         pace = counted (count-start c b i l);
       })
 
-  set-paid : (s : ℕ) (u : AskedMicros) → SettingCase c s u → Paid c b → Paid (settingOf c s u .clock) (entered c (call.Setting s u) b)
+  set-paid : (s : ℕ) (u : AskedMicros) → SettingCase c s u → Paid c b → Paid (settingOf c s u .clock) (callBook c (call.Setting s u) b)
   set-paid s u (refused n e h) p = simp (e, not-zero n h) p
   set-paid s u (done k e) p = simp e (record { j = 0; mP = 0; mN = 0; moved = lit 0; P = side-start 0; N = side-start 0; pace = idle refl refl })
 
-  requested-paid : (r : Request) (o : Bool) → selectsOffset r ≡ o → Paid c b → Paid (requested c r) (requestEntered r b)
+  requested-paid : (r : Request) (o : Bool) → selectsOffset r ≡ o → Paid c b → Paid (requested c r) (requestBook r b)
   unfolding requested
   requested-paid r true t p =
       simp t
@@ -165,11 +165,11 @@ module _ (c : Clock) (b : Book) (i : Inv c b) where
       })
   requested-paid r false t p = simp t (record { j = p .j; mP = p .mP; mN = p .mN; moved = p .moved; P = p .P; N = p .N; pace = p .pace })
 
-  request-paid : (r : Request) → req.RequestCase c r → Paid c b → Paid (requestOf c r .clock) (entered c (call.Request r) b)
+  request-paid : (r : Request) → req.RequestCase c r → Paid c b → Paid (requestOf c r .clock) (callBook c (call.Request r) b)
   request-paid r (req.refused n e h) p = simp (e, not-zero n h) p
   request-paid r (req.done a e) p = simp e (requested-paid r (selectsOffset r) refl p)
 
-  step-paid : (e : Event) → Paid c b → Paid (next c e) (entered c e b)
+  step-paid : (e : Event) → Paid c b → Paid (next c e) (callBook c e b)
   step-paid call.Tick p = tick-paid (tickCase c) p
   step-paid (call.Setting s u) p = set-paid s u (settingCase c s u) p
   step-paid (call.Request r) p = request-paid r (req.requestCase c r) p
@@ -177,20 +177,20 @@ module _ (c : Clock) (b : Book) (i : Inv c b) where
 
   -- at a rollover
   pub paid-bound : Paid c b → 1000000 ≤ microsGrown c
-      → MovedAsTaken (b .moved +ℤ b .own) (takenOff c b)
+      → MovedAsTaken (b .moved +ℤ b .ownShare) (takenOff c b)
   paid-bound p l =
       let t = takenOff c b in
-      let z = (b .moved +ℤ b .own) -ℤ pos 256 *ℤ t in
+      let z = (b .moved +ℤ b .ownShare) -ℤ pos 256 *ℤ t in
       let dt = sub (self (b .asked)) (self (c .offset .0)) in
-      let dz = sub (add (p .moved) (self (b .own))) (times 256 dt) in
+      let dz = sub (add (p .moved) (self (b .ownShare))) (times 256 dt) in
       let u = side-paid (p .P) (ticks-P (p .j) (p .pace) l) in
       let v = side-paid (p .N) (ticks-N (p .j) (p .pace) l) in
       omega (arith, abs-parts z, abs-parts t, dz .eq, dt .eq, u, v, p .P .whole, p .N .whole, one-part z, one-part t, one-part (b .asked))
 
-pub run-paid : (c : Clock) (b : Book) (es : List Event) → Inv c b → Paid c b → Paid (after c es) (kept c b es)
-unfolding after kept
+pub run-paid : (c : Clock) (b : Book) (es : List Event) → Inv c b → Paid c b → Paid (after c es) (bookFrom c b es)
+unfolding after bookFrom
 run-paid c b [] i p = p
-run-paid c b (e ∷ es) i p = run-paid (next c e) (entered c e b) es (step-inv c b i e) (step-paid c b i e p)
+run-paid c b (e ∷ es) i p = run-paid (next c e) (callBook c e b) es (step-inv c b i e) (step-paid c b i e p)
 
 pub fresh-paid : Paid freshClock emptyBook
 fresh-paid = record { j = 0; mP = 0; mN = 0; moved = lit 0; P = side-start 0; N = side-start 0; pace = idle refl refl }

@@ -10,17 +10,17 @@ use Rattle.clock.specs.declared.reading.Told.{Told}
 use Rattle.clock.proofs.Ok.{Ok, ok-back}
 use Rattle.event.specs.declared.event.Event.{Event}
 use Rattle.bounds.specs.Calls.{next, after}
-use Rattle.bounds.specs.Book.{Book, entered, kept}
+use Rattle.bounds.specs.Book.{Book, callBook, bookFrom}
 
 pub after-append : (c : Clock) (xs ys : List Event) → after c (xs ++ ys) ≡ after (after c xs) ys
 unfolding after
 after-append c [] ys = refl
 after-append c (e ∷ xs) ys = after-append (next c e) xs ys
 
-pub kept-append : (c : Clock) (b : Book) (xs ys : List Event) → kept c b (xs ++ ys) ≡ kept (after c xs) (kept c b xs) ys
-unfolding after kept
-kept-append c b [] ys = refl
-kept-append c b (e ∷ xs) ys = kept-append (next c e) (entered c e b) xs ys
+pub bookFrom-append : (c : Clock) (b : Book) (xs ys : List Event) → bookFrom c b (xs ++ ys) ≡ bookFrom (after c xs) (bookFrom c b xs) ys
+unfolding after bookFrom
+bookFrom-append c b [] ys = refl
+bookFrom-append c b (e ∷ xs) ys = bookFrom-append (next c e) (callBook c e b) xs ys
 
 pub fresh-ok : Ok freshClock
 fresh-ok = record {

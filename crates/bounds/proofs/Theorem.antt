@@ -15,10 +15,10 @@ use Rattle.clock.specs.Tick.{rollsOver, microsGrown, tickOf}
 use Rattle.clock.specs.declared.state.Clock.{Clock}
 use Rattle.event.specs.declared.event.Event.{Event}
 use Rattle.event.specs.declared.event.Event.the-variants.{Tick, Reading}
-use Rattle.bounds.specs.Calls.{after, clockAfter, accepted, rolls, ticksAmong, unbroken}
-use Rattle.bounds.specs.Book.{Book, emptyBook, kept, bookAfter}
-use Rattle.bounds.specs.Demand.{NearExact, FirstBound, SecondBound, ThirdBound, Demand3}
-use Rattle.bounds.proofs.Runs.{after-append, kept-append, read-ok}
+use Rattle.bounds.specs.Calls.{after, clockAfter, accepted, rolls, ticksAmong, neitherSetNorInserted}
+use Rattle.bounds.specs.Book.{Book, emptyBook, bookFrom, bookAfter}
+use Rattle.bounds.specs.Demand.{NearExact, FirstBound, SecondBound, ThirdBound, Demand3OfEveryList}
+use Rattle.bounds.proofs.Runs.{after-append, bookFrom-append, read-ok}
 use Rattle.bounds.proofs.Exact.{told, total, Inv, run-inv, fresh-inv}
 use Rattle.bounds.proofs.Moved.{Paid, run-paid, fresh-paid, paid-bound}
 use Rattle.bounds.proofs.Forward.{forward}
@@ -44,9 +44,9 @@ first calls =
 
 -- a tick that rolls over adds the own share to what is moved
 moved-at : (before : List Event) → accepted (clockAfter before) Tick ≡ true → rollsOver (clockAfter before) ≡ true
-    → bookAfter (before ++ (Tick ∷ [])) .moved ≡ bookAfter before .moved +ℤ bookAfter before .own
-unfolding kept
-moved-at before a o = rw (kept-append freshClock emptyBook before (Tick ∷ [])) (simp (a, o))
+    → bookAfter (before ++ (Tick ∷ [])) .moved ≡ bookAfter before .moved +ℤ bookAfter before .ownShare
+unfolding bookFrom
+moved-at before a o = rw (bookFrom-append freshClock emptyBook before (Tick ∷ [])) (simp (a, o))
 
 second : (calls : List Event) → SecondBound calls
 second calls before later e r =
@@ -56,6 +56,10 @@ second calls before later e r =
     rw (moved-at before (p .0) (p .1)) (paid-bound c b (inv before) (paid before) (leb-true _ _ (p .1)))
 
 -- a reading hands back the clock that it got
+clock-read : (before : List Event) → clockAfter (before ++ (Reading ∷ [])) ≡ clockAfter before
+unfolding after
+clock-read before = after-append freshClock before (Reading ∷ [])
+
 clock-then : (before between : List Event) → clockAfter (before ++ (Reading ∷ between)) ≡ after (clockAfter before) between
 unfolding after
 clock-then before between = after-append freshClock before (Reading ∷ between)
@@ -63,10 +67,11 @@ clock-then before between = after-append freshClock before (Reading ∷ between)
 third : (calls : List Event) → ThirdBound calls
 third calls before between later e u =
     let c = clockAfter before in
+    let h = clock-read before in
     let t = clock-then before between in
     let r = read-ok c (inv before .range) in
     let s = read-ok (after c between) (rw t at (inv (before ++ (Reading ∷ between)) .range)) in
-    simp (t, r, s) (forward c (bookAfter before) between (inv before) u)
+    simp (h, t, r, s) (forward c (bookAfter before) between (inv before) (rw h at u))
 
-pub demand3 : (calls : List Event) → Demand3 calls
+pub demand3 : Demand3OfEveryList
 demand3 calls = record { first = first calls; second = second calls; third = third calls }

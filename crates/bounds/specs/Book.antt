@@ -1,7 +1,8 @@
 -- "The book of demand 3": what a list of calls should have come to, by the calls alone. It runs the rules itself, from a fresh
--- clock over the same list: `rules` below is the clock of that run, of which neither phase nor adjustment enters the book.
+-- clock over the same list. `rules` is the clock of that run: its phase and adjustment only decide which ticks roll over or are
+-- refused, and no entry takes them.
 use Prim.Native.Nat.{ℕ, _+_, _*_, _/_, _^_}
-use mathlib.Core.Bool.{Bool, cond}
+use mathlib.Core.Bool.{cond}
 use mathlib.Core.List.{List, [], _∷_}
 use lib.IntN.{ℤ, pos, _+ℤ_, _-ℤ_, _*ℤ_}
 use Rattle.clock.specs.Units.{offsetUnitsPerMicro, microsPerSecond}
@@ -22,20 +23,21 @@ pub record Book : Type 0 where
   pub exact : ℤ
   -- ticks since the last setting or the start
   pub n : ℕ
+  -- "The frequency and share in force are those from which the adjustment was last worked out, at a rollover or setting":
   -- frequency in force (frequency units, 2^-24 us per second)
   pub frequency : ℤ
   -- share in force (offset units, 2^-14 us)
   pub share : ℤ
   -- own share: that part of the share in force which belongs to the last offset request (offset units)
-  pub own : ℤ
+  pub ownShare : ℤ
   -- what the last offset request has moved the clock (1/256 offset unit)
   pub moved : ℤ
   -- what it asked for (offset units)
   pub asked : ℤ
 
--- "All begin at 0."
+-- "All begin at 0." "A fresh clock counts as a setting to 0 s."
 abbrev pub emptyBook : Book
-emptyBook = record { exact = pos 0; n = 0; frequency = pos 0; share = pos 0; own = pos 0; moved = pos 0; asked = pos 0 }
+emptyBook = record { exact = pos 0; n = 0; frequency = pos 0; share = pos 0; ownShare = pos 0; moved = pos 0; asked = pos 0 }
 
 -- units of exact time in a microsecond
 abbrev pub exactPerMicro : ℕ
@@ -47,74 +49,82 @@ tickTime = 3906 * exactPerMicro + exactPerMicro / 4
 
 -- "Tick: n + 1. Exact time + 3,906 1/4 us + 1/256 of the frequency in force (as us per second) + 1/256 of the share in force.
 -- Moved + own share/256." 1/256 of a frequency unit is 2^-32 us a tick, and 1/256 of an offset unit is 2^-22 us.
-abbrev pub tickEntered : Book → Book
-tickEntered b =
+abbrev pub tickBook : Book → Book
+tickBook b =
     record {
       exact = b .exact +ℤ pos tickTime +ℤ b .frequency +ℤ pos (2 ^ 10) *ℤ b .share;
       n = b .n + 1;
       frequency = b .frequency;
       share = b .share;
-      own = b .own;
-      moved = b .moved +ℤ b .own;
+      ownShare = b .ownShare;
+      moved = b .moved +ℤ b .ownShare;
       asked = b .asked;
     }
 
 -- "Exact time - 1,000,000 us if INS steps (an inserted second), + 1,000,000 us if DEL steps." (2^-32 us)
-abbrev pub leapEntered : Clock → ℤ → ℤ
-leapEntered rules exact =
+abbrev pub leapExact : Clock → ℤ → ℤ
+leapExact rules exact =
     cond (insertsSecond rules)
     (exact -ℤ pos (microsPerSecond * exactPerMicro))
     (cond (deletesSecond rules) (exact +ℤ pos (microsPerSecond * exactPerMicro)) exact)
 
 -- "If the tick rolls over, [..] Then share and own share become the rollover's share, and the frequency in force becomes the
 -- present one."
-abbrev pub rolloverEntered : Clock → Book → Book
-rolloverEntered rules b =
+abbrev pub rolloverBook : Clock → Book → Book
+rolloverBook rules b =
     record {
-      exact = leapEntered rules (b .exact);
+      exact = leapExact rules (b .exact);
       n = b .n;
       frequency = rules .frequency .0;
       share = share rules;
-      own = share rules;
+      ownShare = share rules;
       moved = b .moved;
       asked = b .asked;
     }
 
 -- "Setting: exact time is the set time, the frequency in force the present one; the rest 0."
-abbrev pub settingEntered : Clock → ℕ → AskedMicros → Book
-settingEntered rules s u =
+abbrev pub settingBook : Clock → ℕ → AskedMicros → Book
+settingBook rules s u =
     record {
       exact = pos ((s * microsPerSecond + u .0) * exactPerMicro);
       n = 0;
       frequency = rules .frequency .0;
       share = pos 0;
-      own = pos 0;
+      ownShare = pos 0;
       moved = pos 0;
       asked = pos 0;
     }
 
 -- "Request that selects an offset (an offset request): asked becomes the offset x 2^14, own share and moved 0; the share in
 -- force stays."
-abbrev pub offsetEntered : Request → Book → Book
-offsetEntered r b =
-    record { exact = b .exact; n = b .n; frequency = b .frequency; share = b .share; own = pos 0; moved = pos 0; asked = r .offset .0 *ℤ pos offsetUnitsPerMicro }
+abbrev pub offsetBook : Request → Book → Book
+offsetBook r b =
+    record {
+      exact = b .exact;
+      n = b .n;
+      frequency = b .frequency;
+      share = b .share;
+      ownShare = pos 0;
+      moved = pos 0;
+      asked = r .offset .0 *ℤ pos offsetUnitsPerMicro;
+    }
 
--- an accepted request
-abbrev pub requestEntered : Request → Book → Book
-requestEntered r b = cond (selectsOffset r) (offsetEntered r b) b
+-- an accepted request: "Other requests [..]: nothing."
+abbrev pub requestBook : Request → Book → Book
+requestBook r b = cond (selectsOffset r) (offsetBook r b) b
 
 -- one call; "Other requests, readings, refused calls: nothing."
-abbrev pub entered : Clock → Event → Book → Book
-entered rules Tick b = cond (accepted rules Tick) (cond (rollsOver rules) (rolloverEntered rules (tickEntered b)) (tickEntered b)) b
-entered rules (Setting s u) b = cond (accepted rules (Setting s u)) (settingEntered rules s u) b
-entered rules (call.Request r) b = cond (accepted rules (call.Request r)) (requestEntered r b) b
-entered rules Reading b = b
+abbrev pub callBook : Clock → Event → Book → Book
+callBook rules Tick b = cond (accepted rules Tick) (cond (rollsOver rules) (rolloverBook rules (tickBook b)) (tickBook b)) b
+callBook rules (Setting s u) b = cond (accepted rules (Setting s u)) (settingBook rules s u) b
+callBook rules (call.Request r) b = cond (accepted rules (call.Request r)) (requestBook r b) b
+callBook rules Reading b = b
 
 -- the book after some calls, the first of which the rules meet at the clock `rules`
-unfoldable pub kept : Clock → Book → List Event → Book
-kept rules b [] = b
-kept rules b (e ∷ es) = kept (next rules e) (entered rules e b) es
+unfoldable pub bookFrom : Clock → Book → List Event → Book
+bookFrom rules b [] = b
+bookFrom rules b (e ∷ es) = bookFrom (next rules e) (callBook rules e b) es
 
 -- the book of a list of calls
 abbrev pub bookAfter : List Event → Book
-bookAfter calls = kept freshClock emptyBook calls
+bookAfter calls = bookFrom freshClock emptyBook calls

@@ -7,7 +7,6 @@ use Rattle.clock.specs.State.{freshClock}
 use Rattle.clock.specs.Rollover.{inserts, deletes}
 use Rattle.clock.specs.Tick.{rollsOver}
 use Rattle.clock.specs.declared.state.Clock.{Clock}
-use Rattle.request.specs.Request.{selectsOffset}
 use Rattle.event.specs.Event.{stepOf}
 use Rattle.event.specs.declared.event.Event.{Event}
 use Rattle.event.specs.declared.event.Event.the-variants.{Tick, Setting, Request, Reading}
@@ -66,10 +65,10 @@ ticksAmong c [] = 0
 ticksAmong c (e ∷ es) = cond (ticks c e) 1 0 + ticksAmong (next c e) es
 
 -- an accepted setting, or an accepted tick whose rollover inserts a second
-abbrev pub breaks : Clock → Event → Bool
-breaks c e = sets c e || (rolls c e && insertsSecond c)
+abbrev pub setsOrInserts : Clock → Event → Bool
+setsOrInserts c e = sets c e || (rolls c e && insertsSecond c)
 
 -- whether there is "neither a setting nor an inserted second" among the calls, the first of which gets c
-unfoldable pub unbroken : Clock → List Event → Bool
-unbroken c [] = true
-unbroken c (e ∷ es) = not (breaks c e) && unbroken (next c e) es
+unfoldable pub neitherSetNorInserted : Clock → List Event → Bool
+neitherSetNorInserted c [] = true
+neitherSetNorInserted c (e ∷ es) = not (setsOrInserts c e) && neitherSetNorInserted (next c e) es

@@ -1,7 +1,7 @@
 -- Demand 3, the whole of it, as one statement about a list of calls.
-use Prim.Native.Nat.{ℕ, _+_, _*_, _^_, _≤_, _<_}
+use Prim.Native.Nat.{ℕ, _+_, _*_, _≤_, _<_}
 use mathlib.Core.Path.{_≡_}
-use mathlib.Core.Bool.{Bool, true}
+use mathlib.Core.Bool.{true}
 use mathlib.Core.List.{List, [], _∷_, _++_}
 use lib.IntN.{ℤ, pos, natAbs, _-ℤ_, _*ℤ_}
 use Rattle.clock.specs.Units.{microsPerSecond}
@@ -10,7 +10,7 @@ use Rattle.clock.specs.declared.reading.Reading as shows
 use Rattle.event.specs.Event.{stepOf}
 use Rattle.event.specs.declared.event.Event.{Event}
 use Rattle.event.specs.declared.event.Event.the-variants.{Tick, Reading}
-use Rattle.bounds.specs.Calls.{clockAfter, rolls, ticksAmong, unbroken}
+use Rattle.bounds.specs.Calls.{clockAfter, rolls, ticksAmong, neitherSetNorInserted}
 use Rattle.bounds.specs.Book.{Book, bookAfter, exactPerMicro}
 
 -- "A reading tells seconds x 1,000,000 + microseconds." (us)
@@ -40,8 +40,8 @@ abbrev pub MovedAsTaken : ℤ → ℤ → Type 0
 MovedAsTaken m t = natAbs (m -ℤ pos 256 *ℤ t) ≤ natAbs t
 
 -- "At every rollover, before the new share is taken, what the last offset request has moved the clock differs [..]": at each tick of the
--- list that is accepted and rolls over, with what is moved then, this tick included. After a setting both are 0, so that it holds
--- there too.
+-- list that is accepted and rolls over, with what is moved then, this tick included. Before the first offset request, and after a
+-- setting, both are 0, so that it holds there too.
 abbrev pub SecondBound : List Event → Type 0
 SecondBound calls =
     (before later : List Event) → calls ≡ before ++ (Tick ∷ later) → rolls (clockAfter before) Tick ≡ true
@@ -52,15 +52,19 @@ abbrev pub leastTick : ℕ
 leastTick = 3905
 
 -- "Whichever two readings are taken, with n ticks and neither a setting nor an inserted second between them, the clock has gone
--- forward by at least 3,905 n us." (A reading hands back the clock that it got, so that the first call between gets `clockAfter before`.)
+-- forward by at least 3,905 n us."
 abbrev pub ThirdBound : List Event → Type 0
 ThirdBound calls =
     (before between later : List Event) → calls ≡ before ++ (Reading ∷ (between ++ (Reading ∷ later)))
-    → unbroken (clockAfter before) between ≡ true
-    → toldAfter before + leastTick * ticksAmong (clockAfter before) between ≤ toldAfter (before ++ (Reading ∷ between))
+    → neitherSetNorInserted (clockAfter (before ++ (Reading ∷ []))) between ≡ true
+    → toldAfter before + leastTick * ticksAmong (clockAfter (before ++ (Reading ∷ []))) between ≤ toldAfter (before ++ (Reading ∷ between))
 
--- Demand 3 of a list of calls.
+-- Demand 3 of a list of calls. The clock of the list is what `event::event::step` hands back, by its promise `r ≡ stepOf c e`.
 pub record Demand3 (calls : List Event) : Type 0 where
   pub first : FirstBound calls
   pub second : SecondBound calls
   pub third : ThirdBound calls
+
+-- "Take any list of ticks, settings, requests and readings, refused ones included, on a clock that starts fresh."
+abbrev pub Demand3OfEveryList : Type 0
+Demand3OfEveryList = (calls : List Event) → Demand3 calls

@@ -1,6 +1,5 @@
 -- The constants of a recorder, in one record: what the rules take from it they take by its name.
-use Prim.Native.Nat.{ℕ}
-use lib.IntN.{ℤ, pos, negℤ}
+use lib.IntN.{pos, negℤ}
 use Rattle.clock.specs.Units.{micros, phaseUnits}
 use Rattle.clock.specs.declared.device.Device.{Device}
 
@@ -17,6 +16,6 @@ recorder256 =
       most = phaseUnits (pos 303037440);
     }
 
--- the constants that the rules below run with
+-- the constants that the rules take
 abbrev pub device : Device
 device = recorder256

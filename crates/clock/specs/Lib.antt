@@ -1,4 +1,5 @@
--- Document 01's rules for the clock, in its order; the request's are in the crate `request`.
+-- Document 01's rules for the clock; the request's are in the crate `request`. A rollover stands before the tick that it is part of,
+-- and each call's refusals stand with the call.
 pub mod Units
 pub mod Device
 pub mod State

@@ -1,6 +1,6 @@
 -- "Reading. Seconds, microseconds, status, both errors; the state is not changed."
 use Prim.Native.Nat.{ℕ}
-use mathlib.Core.Bool.{Bool, not, cond}
+use mathlib.Core.Bool.{not, cond}
 use Rattle.clock.specs.Units.{micros}
 use Rattle.clock.specs.State.{inRange, statusBad}
 use Rattle.clock.specs.Refusal.{refuse}

@@ -5,8 +5,8 @@ use lib.Dec.{eqb}
 use Rattle.clock.specs.declared.state.Clock.{Clock}
 use Rattle.clock.specs.declared.outcome.Outcome.{Outcome}
 
--- Number n where its condition holds, else what the later conditions give: written from the lowest number to the highest,
--- such a chain gives "the lowest that applies".
+-- Number n where its condition holds, else what the later conditions give. Written from the lowest number to the highest, such a
+-- chain is "The lowest of 1 to 9 that applies is given".
 abbrev pub refuse : Bool → ℕ → ℕ → ℕ
 refuse applies n later = cond applies n later
 

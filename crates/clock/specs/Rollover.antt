@@ -13,10 +13,11 @@ use Rattle.clock.specs.declared.state.Clock.{Clock}
 abbrev pub maxerrorGrown : ℕ → ℕ
 maxerrorGrown e = min (e + 100) greatestError
 
--- "Share = offset left / 2^(10 + time constant)" (offset units)
+-- 2^(10 + time constant)
 abbrev pub shareDivisor : ℕ → ℕ
 shareDivisor k = 2 ^ (10 + k)
 
+-- "Share = offset left / 2^(10 + time constant)" (offset units)
 abbrev pub share : Clock → ℤ
 share c = quotZ (c .offset .0) (pos (shareDivisor (c .constant)))
 
@@ -37,6 +38,7 @@ inserts status s = eqb status statusIns && eqb (s % secondsPerDay) 0
 abbrev pub deletes : ℕ → ℕ → Bool
 deletes status s = eqb status statusDel && eqb (s % secondsPerDay) 86399
 
+-- the second after the step; s is at least 1, and the last second is not one that a step would add to
 abbrev pub leapSeconds : ℕ → ℕ → ℕ
 leapSeconds status s = cond (inserts status s) (s - 1) (cond (deletes status s) (s + 1) s)
 

@@ -2,9 +2,9 @@
 use Prim.Native.Nat.{ℕ}
 use mathlib.Core.Bool.{Bool, _&&_, not}
 use lib.Dec.{leb}
-use lib.IntN.{ℤ, pos}
+use lib.IntN.{pos}
 use Rattle.clock.specs.Units.{micros, offsetUnits, phaseUnits}
-use Rattle.clock.specs.State.{inRange, lastSecond, greatestError, statusBad}
+use Rattle.clock.specs.State.{inRange, lastSecond, lastMicro, greatestError, statusBad}
 use Rattle.clock.specs.Refusal.{refuse, answer}
 use Rattle.clock.specs.Rollover.{adjustmentFor}
 use Rattle.clock.specs.declared.state.Clock.{Clock}
@@ -32,7 +32,7 @@ setTo c s u =
 
 -- within "the ranges of seconds or microseconds"
 abbrev pub settable : ℕ → AskedMicros → Bool
-settable s u = leb s lastSecond && leb (u .0) 999999
+settable s u = leb s lastSecond && leb (u .0) lastMicro
 
 -- 1 "a state field lies outside its range", 2 "a setting outside the ranges of seconds or microseconds"
 unfoldable pub settingRefusal : Clock → ℕ → AskedMicros → ℕ

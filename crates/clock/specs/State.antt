@@ -4,7 +4,7 @@ use mathlib.Core.Bool.{Bool, _&&_, _||_}
 use lib.Dec.{leb, eqb}
 use lib.IntN.{ℤ, pos, negℤ}
 use lib.Signed.{leZ, ltZ}
-use Rattle.clock.specs.Units.{micros, offsetUnits, phaseUnits, frequencyUnits, offsetUnitsPerMicro, phaseUnitsPerMicro, microsPerSecond}
+use Rattle.clock.specs.Units.{micros, offsetUnits, phaseUnits, frequencyUnits, offsetUnitsPerMicro, phaseUnitsPerMicro}
 use Rattle.clock.specs.Device.{device}
 use Rattle.clock.specs.declared.state.Clock.{Clock}
 
@@ -12,11 +12,15 @@ use Rattle.clock.specs.declared.state.Clock.{Clock}
 abbrev pub lastSecond : ℕ
 lastSecond = 4294967295
 
--- the greatest offset of a request, either way (us)
+-- the last microsecond of a second
+abbrev pub lastMicro : ℕ
+lastMicro = 999999
+
+-- the size of the greatest offset of a request (us)
 abbrev pub greatestOffset : ℕ
 greatestOffset = 127999
 
--- the greatest frequency, either way: 100 ppm (frequency units)
+-- the size of the greatest frequency, 100 ppm (frequency units)
 abbrev pub greatestFrequency : ℕ
 greatestFrequency = 100 * 2 ^ 24
 
@@ -44,22 +48,22 @@ statusOop = 3
 abbrev pub statusBad : ℕ
 statusBad = 4
 
--- z is at most n, either way
-abbrev pub atMost : ℕ → ℤ → Bool
-atMost n z = leZ (negℤ (pos n)) z && leZ z (pos n)
+-- -n ≤ z ≤ n
+abbrev pub within : ℕ → ℤ → Bool
+within n z = leZ (negℤ (pos n)) z && leZ z (pos n)
 
--- z is below n, either way
-abbrev pub below : ℕ → ℤ → Bool
-below n z = ltZ (negℤ (pos n)) z && ltZ z (pos n)
+-- -n < z < n
+abbrev pub strictlyWithin : ℕ → ℤ → Bool
+strictlyWithin n z = ltZ (negℤ (pos n)) z && ltZ z (pos n)
 
 -- The column "Range", a line for each row.
 unfoldable pub inRange : Clock → Bool
 inRange c =
     leb (c .seconds) lastSecond
-    && leb (c .micros .0) 999999
-    && below phaseUnitsPerMicro (c .phase .0)
-    && atMost (greatestOffset * offsetUnitsPerMicro) (c .offset .0)
-    && atMost greatestFrequency (c .frequency .0)
+    && leb (c .micros .0) lastMicro
+    && strictlyWithin phaseUnitsPerMicro (c .phase .0)
+    && within (greatestOffset * offsetUnitsPerMicro) (c .offset .0)
+    && within greatestFrequency (c .frequency .0)
     && (leZ (device .least .0) (c .adjustment .0) && leZ (c .adjustment .0) (device .most .0))
     && leb (c .constant) greatestConstant
     && (leb (c .updated) 1 && leb (c .reftime) lastSecond && (eqb (c .updated) 1 || eqb (c .reftime) 0))

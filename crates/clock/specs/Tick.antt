@@ -50,7 +50,7 @@ advanced c us =
       status = c .status;
     }
 
--- "that much is taken off and a rollover follows"
+-- "that much is taken off and a rollover follows": it is taken off where there is that much
 unfoldable pub ticked : Clock → Clock
 ticked c = cond (rollsOver c) (rolledOver (advanced c (microsGrown c - microsPerSecond))) (advanced c (microsGrown c))
 

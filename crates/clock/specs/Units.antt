@@ -1,4 +1,5 @@
--- The kinds of number, and what they are worth. An offset unit is 2^-14 us, a phase unit 2^-28 us, a frequency unit 2^-24 ppm.
+-- The kinds of number, and what they are worth. "An offset unit is 2^-14 us, a phase unit 2^-28 us, a frequency unit 2^-24 ppm."
+-- "Every quotient below drops the fraction towards zero, for negative numbers too": `quotZ` is that quotient, in all of these files.
 use Prim.Native.Nat.{ℕ, _^_}
 use lib.IntN.{ℤ}
 use Rattle.clock.specs.declared.units.Micros.{Micros}

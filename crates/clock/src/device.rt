@@ -3,9 +3,9 @@ ghost use Rattle.clock.specs.Device.{recorder256};
 use crate::units::Micros;
 use crate::units::PhaseUnits;
 
-// What sets one kind of recorder apart from another. All else in this crate holds for any of them.
+// What sets one kind of recorder apart from another: the rules take these numbers from here.
 pub struct Device {
-    // ticks a second
+    // rate of the timer (Hz). From one rollover to the next there are 255, 256 or 257 ticks.
     pub rate: u32,
     // the whole microseconds of a tick
     pub tick: Micros,
@@ -32,7 +32,7 @@ pub const RECORDER: Device = Device {
 };
 
 // The constants that this build runs with.
-pub fn constants() -> Device
+pub fn device_constants() -> Device
     ensures { λ r. ⌜ r ≡ recorder256 ⌝ }
 {
     RECORDER

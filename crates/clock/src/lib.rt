@@ -1,5 +1,5 @@
 // The disciplined clock of README.kern and RFC 1589: a state by value, and the calls that give the next state and an answer.
-// Every public function is total: a state or an argument that is not sound gets its refusal number, and the state comes back unchanged.
+// Every call is total: a state or an argument that is not sound gets its refusal number and changes nothing.
 pub mod device;
 pub mod outcome;
 pub mod reading;

@@ -3,9 +3,9 @@ ghost use mathlib.Core.Bool.{true};
 ghost use Prim.Native.Nat.{_≤_, _<_};
 ghost use lib.IntN.{pos};
 ghost use Rattle.clock.specs.Units.{micros, offsetUnits, phaseUnits};
-ghost use Rattle.clock.specs.State.{atMost, greatestFrequency, inRange, lastSecond};
+ghost use Rattle.clock.specs.State.{within, greatestError, greatestFrequency, inRange, lastSecond};
 ghost use Rattle.clock.specs.Rollover.{maxerrorGrown, shareDivisor, share, adjustmentFor, rolledOver};
-ghost use Rattle.clock.specs.Inner.{leapOf};
+ghost use Rattle.clock.specs.Inner.{greatestShare, leapOf};
 use crate::device::RECORDER;
 use crate::state::Clock;
 use crate::state::MAX_ERROR;
@@ -16,7 +16,7 @@ use crate::units::PhaseUnits;
 
 // The maximum error a second later: README.kern's tolerance of 100 ppm.
 fn maxerror_grown(e: Micros) -> Micros
-    requires { ⌜ e .0 ≤ 16000000 ⌝ }
+    requires { ⌜ e .0 ≤ greatestError ⌝ }
     ensures { λ r. ⌜ r ≡ micros (maxerrorGrown (e .0)) ⌝ }
 {
     if e.0 <= MAX_ERROR - 100 {
@@ -48,8 +48,8 @@ fn share_of(c: Clock) -> OffsetUnits
 
 // The adjustment for a share and a frequency in force.
 pub(crate) fn adjustment_for(s: OffsetUnits, f: Frequency) -> PhaseUnits
-    requires { ⌜ atMost 2047984 (s .0) ≡ true ⌝ }
-    requires { ⌜ atMost greatestFrequency (f .0) ≡ true ⌝ }
+    requires { ⌜ within greatestShare (s .0) ≡ true ⌝ }
+    requires { ⌜ within greatestFrequency (f .0) ≡ true ⌝ }
     ensures { λ r. ⌜ r ≡ phaseUnits (adjustmentFor (s .0) (f .0)) ⌝ }
 {
     PhaseUnits(RECORDER.scale * s.0 + f.0 / RECORDER.divisor + RECORDER.base.0)
@@ -103,7 +103,7 @@ fn leap_step(status: u8, s: u32) -> Leap
     }
 }
 
-// The clock one second later: second_overflow() of RFC 1589.
+// A rollover: second_overflow() of RFC 1589.
 pub(crate) fn rollover(c: Clock) -> Clock
     requires { ⌜ inRange c ≡ true ⌝ }
     requires { ⌜ c .seconds < lastSecond ⌝ }

@@ -3,6 +3,7 @@ ghost use Rattle.clock.specs.Setting.{settingOf};
 use crate::outcome::Outcome;
 use crate::rollover::adjustment_for;
 use crate::state::Clock;
+use crate::state::LAST_MICRO;
 use crate::state::LAST_SECOND;
 use crate::state::MAX_ERROR;
 use crate::state::in_range;
@@ -21,7 +22,7 @@ pub fn set(c: Clock, seconds: u64, micros: AskedMicros) -> Outcome
             clock: c,
         };
     }
-    if !((seconds <= LAST_SECOND as u64) & (micros.0 <= 999999)) {
+    if !((seconds <= LAST_SECOND as u64) & (micros.0 <= LAST_MICRO as u64)) {
         return Outcome {
             refusal: 2,
             clock: c,

@@ -9,7 +9,10 @@ use crate::units::PhaseUnits;
 // The last second that the clock can tell.
 pub const LAST_SECOND: u32 = 4294967295;
 
-// The limit of both errors.
+// The last microsecond of a second.
+pub const LAST_MICRO: u32 = 999999;
+
+// The limit of both errors (us).
 pub const MAX_ERROR: u32 = 16000000;
 
 // A clock's state, in the order of document 01's table. Any value of the type may be handed in, sound or not.
@@ -41,9 +44,9 @@ pub struct Clock {
 pub fn in_range(c: Clock) -> bool
     ensures { λ r. ⌜ r ≡ inRange c ⌝ }
 {
-    // Every u32 is a second that can be told: those two tests cost nothing, and are here for the table's sake.
+    // Every u32 is a second that can be told: the tests of `seconds` and `reftime` always hold, and cost nothing.
     (c.seconds <= LAST_SECOND)
-        & (c.micros.0 <= 999999)
+        & (c.micros.0 <= LAST_MICRO)
         & ((-268435456 < c.phase.0) & (c.phase.0 < 268435456))
         & ((-2097135616 <= c.offset.0) & (c.offset.0 <= 2097135616))
         & ((-1677721600 <= c.frequency.0) & (c.frequency.0 <= 1677721600))

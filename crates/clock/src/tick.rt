@@ -10,6 +10,7 @@ use crate::state::Clock;
 use crate::state::LAST_SECOND;
 use crate::state::in_range;
 use crate::units::Micros;
+use crate::units::PHASE_PER_MICRO;
 use crate::units::PhaseUnits;
 
 // The microseconds and the phase that a tick leads to, before a rollover takes a second off.
@@ -23,10 +24,10 @@ fn advance_of(c: Clock) -> Advance
     ensures { λ r. ⌜ r ≡ advanceOf c ⌝ }
 {
     let sum = c.phase.0 + c.adjustment.0;
-    let carry = sum / 268435456;
+    let carry = sum / PHASE_PER_MICRO;
     Advance {
         micros: Micros(((c.micros.0 + RECORDER.tick.0) as i32 + carry) as u32),
-        phase: PhaseUnits(sum - carry * 268435456),
+        phase: PhaseUnits(sum - carry * PHASE_PER_MICRO),
     }
 }
 

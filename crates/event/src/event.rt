@@ -28,7 +28,7 @@ pub struct Stepped {
     pub reading: Reading,
 }
 
-fn step_of(o: Outcome) -> Stepped
+fn step_with(o: Outcome) -> Stepped
     ensures { λ r. ⌜ r ≡ stepWith o ⌝ }
 {
     let clock = o.clock;
@@ -50,9 +50,9 @@ pub fn step(c: Clock, e: Event) -> Stepped
     ensures { λ r. ⌜ r ≡ stepOf c e ⌝ }
 {
     match e {
-        Event::Tick => step_of(tick(c)),
-        Event::Setting(seconds, micros) => step_of(set(c, seconds, micros)),
-        Event::Request(r) => step_of(adjust(c, r)),
+        Event::Tick => step_with(tick(c)),
+        Event::Setting(seconds, micros) => step_with(set(c, seconds, micros)),
+        Event::Request(r) => step_with(adjust(c, r)),
         Event::Reading => {
             let told = read(c);
             let reading = told.reading;

@@ -8,7 +8,7 @@ use borrow.Author.Tests.{ltb-false, not-false}
 use lib.IntN.{ℤ, pos, _*ℤ_}
 use Rattle.integers.proofs.Parts.{posPart, negPart, parts}
 use Rattle.integers.proofs.Ranges.{within-parts, between-parts}
-use Rattle.clock.specs.State.{inRange, atMost, below, greatestOffset, greatestFrequency, greatestConstant, greatestError, statusOk, statusBad}
+use Rattle.clock.specs.State.{inRange, within, strictlyWithin, greatestOffset, greatestFrequency, greatestConstant, greatestError, statusOk, statusBad}
 use Rattle.clock.specs.Units.{micros}
 use Rattle.clock.specs.declared.state.Clock.{Clock}
 use Rattle.clock.specs.declared.units.Micros.{Micros}
@@ -58,8 +58,8 @@ accepted c r e =
     let errors = or-false (selectsMaxerror r && ltb greatestError (r .maxerror .0)) (selectsEsterror r && ltb greatestError (r .esterror .0)) (a7 .0) in
     record {
       clock = ok c (not-false (inRange c) (a1 .0));
-      offset = λ t. within-parts _ _ (r .offset .0) (within-if (selectsOffset r) (atMost greatestOffset (r .offset .0)) (a5 .0) t);
-      frequency = λ t. between-parts _ _ (r .frequency .0) (lit< tt) (lit< tt) (within-if (selectsFrequency r) (below greatestFrequency (r .frequency .0)) (a6 .0) t);
+      offset = λ t. within-parts _ _ (r .offset .0) (within-if (selectsOffset r) (within greatestOffset (r .offset .0)) (a5 .0) t);
+      frequency = λ t. between-parts _ _ (r .frequency .0) (lit< tt) (lit< tt) (within-if (selectsFrequency r) (strictlyWithin greatestFrequency (r .frequency .0)) (a6 .0) t);
       maxerror = most-if (selectsMaxerror r) greatestError (r .maxerror .0) (errors .0);
       esterror = most-if (selectsEsterror r) greatestError (r .esterror .0) (errors .1);
       status = most-if (selectsStatus r) statusBad (r .status) (a8 .0);

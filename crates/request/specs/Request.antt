@@ -5,11 +5,12 @@ use lib.Dec.{ltb, eqb}
 use lib.IntN.{ℤ, pos, negℤ, _+ℤ_, _*ℤ_}
 use lib.Signed.{quotZ, ltZ}
 use Rattle.clock.specs.Units.{micros, offsetUnits, frequencyUnits, offsetUnitsPerMicro}
-use Rattle.clock.specs.State.{inRange, atMost, below, greatestOffset, greatestFrequency, greatestConstant, greatestError, statusOk, statusBad}
+use Rattle.clock.specs.State.{inRange, within, strictlyWithin, greatestOffset, greatestFrequency, greatestConstant, greatestError, statusOk, statusBad}
 use Rattle.clock.specs.Refusal.{refuse, answer}
 use Rattle.clock.specs.declared.state.Clock.{Clock}
 use Rattle.clock.specs.declared.units.Micros.{Micros}
 use Rattle.clock.specs.declared.outcome.Outcome.{Outcome}
+use Rattle.request.specs.declared.request.ModeBits.{ModeBits}
 use Rattle.request.specs.declared.request.Request.{Request}
 
 -- the mode has this bit, a power of two
@@ -17,23 +18,26 @@ abbrev pub bitSet : ℕ → ℕ → Bool
 bitSet mode bit = eqb (mode / bit % 2) 1
 
 -- "A mode number selects fields: 1 offset (us), 2 frequency, 4 maximum error, 8 estimated error, 16 status, 32 time constant."
+abbrev pub modeBits : ModeBits
+modeBits = record { offset = 1; frequency = 2; maxerror = 4; esterror = 8; status = 16; constant = 32 }
+
 abbrev pub selectsOffset : Request → Bool
-selectsOffset r = bitSet (r .mode) 1
+selectsOffset r = bitSet (r .mode) (modeBits .offset)
 
 abbrev pub selectsFrequency : Request → Bool
-selectsFrequency r = bitSet (r .mode) 2
+selectsFrequency r = bitSet (r .mode) (modeBits .frequency)
 
 abbrev pub selectsMaxerror : Request → Bool
-selectsMaxerror r = bitSet (r .mode) 4
+selectsMaxerror r = bitSet (r .mode) (modeBits .maxerror)
 
 abbrev pub selectsEsterror : Request → Bool
-selectsEsterror r = bitSet (r .mode) 8
+selectsEsterror r = bitSet (r .mode) (modeBits .esterror)
 
 abbrev pub selectsStatus : Request → Bool
-selectsStatus r = bitSet (r .mode) 16
+selectsStatus r = bitSet (r .mode) (modeBits .status)
 
 abbrev pub selectsConstant : Request → Bool
-selectsConstant r = bitSet (r .mode) 32
+selectsConstant r = bitSet (r .mode) (modeBits .constant)
 
 -- 4 "mode above 63"
 abbrev pub modeAbove : Request → Bool
@@ -41,11 +45,11 @@ modeAbove r = ltb 63 (r .mode)
 
 -- 5 "selected offset not within -127,999..127,999"
 abbrev pub offsetOutside : Request → Bool
-offsetOutside r = selectsOffset r && not (atMost greatestOffset (r .offset .0))
+offsetOutside r = selectsOffset r && not (within greatestOffset (r .offset .0))
 
 -- 6 "selected frequency not strictly between the ends of its range"
 abbrev pub frequencyOutside : Request → Bool
-frequencyOutside r = selectsFrequency r && not (below greatestFrequency (r .frequency .0))
+frequencyOutside r = selectsFrequency r && not (strictlyWithin greatestFrequency (r .frequency .0))
 
 -- 7 "a selected error above 16,000,000"
 abbrev pub errorAbove : Request → Bool
@@ -71,7 +75,7 @@ requestRefusal c r =
     (refuse (constantAbove r) 9
     0))))))
 
--- "Effects in the order frequency, errors, status, time constant, offset."
+-- "Effects in the order frequency, errors, status, time constant, offset." Each of them is a definition of its own.
 -- the frequency, before an offset moves it (frequency units)
 abbrev pub frequencyWritten : Clock → Request → ℤ
 frequencyWritten c r = cond (selectsFrequency r) (r .frequency .0) (c .frequency .0)
@@ -96,14 +100,15 @@ abbrev pub offsetAfter : Clock → Request → ℤ
 offsetAfter c r = cond (selectsOffset r) (r .offset .0 *ℤ pos offsetUnitsPerMicro) (c .offset .0)
 
 -- "Interval = seconds now minus the second of the earlier update; 0 if there is none or it is negative; at most 1,024." (s)
--- Below 0 the difference of two naturals is 0.
+-- The difference of two naturals is 0 where it would be negative.
 abbrev pub interval : Clock → ℕ
 interval c = cond (eqb (c .updated) 1) (min (c .seconds - c .reftime) 1024) 0
 
--- "Frequency grows by offset x interval / 4^(time constant)" (frequency units)
+-- 4^(time constant)
 abbrev pub gainDivisor : ℕ → ℕ
 gainDivisor k = 4 ^ k
 
+-- "Frequency grows by offset x interval / 4^(time constant)" (frequency units)
 abbrev pub gain : ℤ → ℕ → ℕ → ℤ
 gain o n k = quotZ (o *ℤ pos n) (pos (gainDivisor k))
 
@@ -153,6 +158,6 @@ requested c r =
       status = statusAfter c r;
     }
 
--- what a request answers
+-- "All or nothing": every effect, or none with the refusal
 unfoldable pub requestOf : Clock → Request → Outcome
 requestOf c r = answer (requestRefusal c r) (requested c r) c

@@ -7,12 +7,12 @@ use crate::gain::clamped_sum;
 use crate::gain::gain_of;
 use crate::gain::interval_of;
 use crate::refusal::is_set;
-use crate::request::ADJ_CONSTANT;
 use crate::request::ADJ_ESTERROR;
 use crate::request::ADJ_FREQUENCY;
 use crate::request::ADJ_MAXERROR;
 use crate::request::ADJ_OFFSET;
 use crate::request::ADJ_STATUS;
+use crate::request::ADJ_TIMECONST;
 use crate::request::Request;
 use clock::state::Clock;
 use clock::units::AskedMicros;
@@ -40,7 +40,7 @@ fn error_written(selected: bool, asked: AskedMicros, present: Micros) -> Micros
     present
 }
 
-// A status or a time constant: both are at most 4.
+// A status, a time constant or the flag of an earlier update: each is at most 4.
 fn number_written(written: bool, asked: u64, present: u8) -> u8
     requires { ⌜ (written ≡ true → asked ≤ 4) ⌝ }
     ensures { λ q. ⌜ q ≡ cond written asked present ⌝ }
@@ -63,7 +63,7 @@ fn constant_written(c: Clock, r: Request) -> u8
     requires { ⌜ requestRefusal c r ≡ 0 ⌝ }
     ensures { λ q. ⌜ q ≡ constantWritten c r ⌝ }
 {
-    number_written(is_set(r.mode, ADJ_CONSTANT), r.constant, c.constant)
+    number_written(is_set(r.mode, ADJ_TIMECONST), r.constant, c.constant)
 }
 
 fn offset_after(c: Clock, r: Request) -> OffsetUnits

@@ -3,9 +3,10 @@ ghost use mathlib.Core.Bool.{true};
 ghost use Prim.Native.Nat.{_≤_};
 ghost use lib.IntN.{pos, _+ℤ_};
 ghost use Rattle.clock.specs.Units.{frequencyUnits};
-ghost use Rattle.clock.specs.State.{atMost, greatestFrequency, greatestOffset, inRange};
+ghost use Rattle.clock.specs.State.{within, greatestFrequency, greatestOffset, inRange};
 ghost use Rattle.request.specs.Request.{interval, gainDivisor, gain, clamp};
-use crate::units::OffsetMicros;
+ghost use Rattle.request.specs.Inner.{greatestGain};
+use crate::units::AskedOffset;
 use clock::state::Clock;
 use clock::units::Frequency;
 
@@ -40,8 +41,8 @@ fn gain_divisor(constant: u8) -> i32
 }
 
 // What an offset adds to the frequency: RFC 1589 divides by the time constant's power.
-pub(crate) fn gain_of(o: OffsetMicros, n: u32, constant: u8) -> Frequency
-    requires { ⌜ atMost greatestOffset (o .0) ≡ true ⌝ }
+pub(crate) fn gain_of(o: AskedOffset, n: u32, constant: u8) -> Frequency
+    requires { ⌜ within greatestOffset (o .0) ≡ true ⌝ }
     requires { ⌜ n ≤ 1024 ⌝ }
     requires { ⌜ constant ≤ 4 ⌝ }
     ensures { λ r. ⌜ r ≡ frequencyUnits (gain (o .0) n constant) ⌝ }
@@ -52,8 +53,8 @@ pub(crate) fn gain_of(o: OffsetMicros, n: u32, constant: u8) -> Frequency
 
 // A frequency and a gain, kept in the frequency's range.
 pub(crate) fn clamped_sum(f: Frequency, g: Frequency) -> Frequency
-    requires { ⌜ atMost greatestFrequency (f .0) ≡ true ⌝ }
-    requires { ⌜ atMost 131070976 (g .0) ≡ true ⌝ }
+    requires { ⌜ within greatestFrequency (f .0) ≡ true ⌝ }
+    requires { ⌜ within greatestGain (g .0) ≡ true ⌝ }
     ensures { λ r. ⌜ r ≡ frequencyUnits (clamp (f .0 +ℤ g .0)) ⌝ }
 {
     let z = f.0 + g.0;

@@ -2,12 +2,12 @@ ghost use mathlib.Core.Path.{_≡_};
 ghost use Prim.Native.Nat.{_<_};
 ghost use Rattle.clock.specs.Refusal.{refuse};
 ghost use Rattle.request.specs.Request.{bitSet, modeAbove, offsetOutside, frequencyOutside, errorAbove, statusAbove, constantAbove, requestRefusal};
-use crate::request::ADJ_CONSTANT;
 use crate::request::ADJ_ESTERROR;
 use crate::request::ADJ_FREQUENCY;
 use crate::request::ADJ_MAXERROR;
 use crate::request::ADJ_OFFSET;
 use crate::request::ADJ_STATUS;
+use crate::request::ADJ_TIMECONST;
 use crate::request::Request;
 use clock::state::Clock;
 use clock::state::MAX_ERROR;
@@ -49,7 +49,7 @@ fn error_above(r: Request) -> bool
 pub(crate) fn refusal_of(c: Clock, r: Request) -> u8
     ensures { λ n. ⌜ n ≡ requestRefusal c r ⌝ }
 {
-    let n9 = refuse_if(is_set(r.mode, ADJ_CONSTANT) & (4 < r.constant), 9, 0);
+    let n9 = refuse_if(is_set(r.mode, ADJ_TIMECONST) & (4 < r.constant), 9, 0);
     let n8 = refuse_if(is_set(r.mode, ADJ_STATUS) & (4 < r.status), 8, n9);
     let n7 = refuse_if(error_above(r), 7, n8);
     let n6 = refuse_if(frequency_outside(r), 6, n7);

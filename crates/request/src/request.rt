@@ -1,14 +1,14 @@
 ghost use mathlib.Core.Path.{_≡_};
-ghost use Rattle.request.specs.Request.{requestOf};
+ghost use Rattle.request.specs.Request.{modeBits, requestOf};
 use crate::effects::requested_of;
 use crate::refusal::refusal_of;
 use crate::units::AskedFrequency;
-use crate::units::OffsetMicros;
+use crate::units::AskedOffset;
 use clock::outcome::Outcome;
 use clock::state::Clock;
 use clock::units::AskedMicros;
 
-// The bits of a request's mode, one for each field that it can select.
+// The bits of a request's mode, one for each field that it can select, by their names in RFC 1589.
 pub const ADJ_OFFSET: u64 = 1;
 
 pub const ADJ_FREQUENCY: u64 = 2;
@@ -19,12 +19,36 @@ pub const ADJ_ESTERROR: u64 = 8;
 
 pub const ADJ_STATUS: u64 = 16;
 
-pub const ADJ_CONSTANT: u64 = 32;
+pub const ADJ_TIMECONST: u64 = 32;
+
+// The same bits, as one value.
+pub struct ModeBits {
+    pub offset: u64,
+    pub frequency: u64,
+    pub maxerror: u64,
+    pub esterror: u64,
+    pub status: u64,
+    pub constant: u64,
+}
+
+// Which bit selects which field.
+pub fn mode_bits() -> ModeBits
+    ensures { λ r. ⌜ r ≡ modeBits ⌝ }
+{
+    ModeBits {
+        offset: ADJ_OFFSET,
+        frequency: ADJ_FREQUENCY,
+        maxerror: ADJ_MAXERROR,
+        esterror: ADJ_ESTERROR,
+        status: ADJ_STATUS,
+        constant: ADJ_TIMECONST,
+    }
+}
 
 // The mode says which fields are selected; the others are not looked at.
 pub struct Request {
     pub mode: u64,
-    pub offset: OffsetMicros,
+    pub offset: AskedOffset,
     pub frequency: AskedFrequency,
     pub maxerror: AskedMicros,
     pub esterror: AskedMicros,
@@ -32,7 +56,7 @@ pub struct Request {
     pub constant: u64,
 }
 
-// The clock with a request carried out, or refused whole.
+// The clock with a request carried out, or refused whole: ntp_adjtime() of RFC 1589.
 pub fn adjust(c: Clock, r: Request) -> Outcome
     ensures { λ q. ⌜ q ≡ requestOf c r ⌝ }
 {

@@ -41,12 +41,15 @@ returns c =
 cast-if2 : tie.Need-cast-if2
 cast-if2 c = search needs
 
+cast-if2-2 : tie.Need-cast-if2-2
+cast-if2-2 c = search needs
+
 returns-2 : tie.Need-returns-2
 unfolding settingOf settingRefusal
 returns-2 c = simp (inside (c .before .before), denied c)
 
-cast-t13 : tie.Need-cast-t13
-cast-t13 c = record { fits = omega (arith, time-fits (c .before) .1) }
+cast-t14 : tie.Need-cast-t14
+cast-t14 c = record { fits = omega (arith, time-fits (c .before) .1) }
 
 adjustment-for-requires : tie.Need-adjustment-for-requires
 adjustment-for-requires c κs =
@@ -55,8 +58,8 @@ adjustment-for-requires c κs =
     let k = ok a (inside e) in
     (refl, parts-within _ _ (a .frequency .0) (k .frequency .0) (k .frequency .1))
 
-cast-t13-2 : tie.Need-cast-t13-2
-cast-t13-2 c = record { fits = omega (arith, time-fits (c .before .before) .0) }
+cast-t14-2 : tie.Need-cast-t14-2
+cast-t14-2 c = record { fits = omega (arith, time-fits (c .before .before) .0) }
 
 returns-3 : tie.Need-returns-3
 unfolding settingOf settingRefusal
@@ -71,8 +74,9 @@ set-spec =
     in-range-requires
     returns
     cast-if2
+    cast-if2-2
     returns-2
-    cast-t13
+    cast-t14
     adjustment-for-requires
-    cast-t13-2
+    cast-t14-2
     returns-3)

@@ -9,8 +9,8 @@ enum-told c = search needs
 tick-requires : tie.Need-tick-requires
 tick-requires c κs = search needs
 
-step-of-requires : tie.Need-step-of-requires
-step-of-requires c κs = search needs
+step-with-requires : tie.Need-step-with-requires
+step-with-requires c κs = search needs
 
 enum-known-e : tie.Need-enum-known-e
 enum-known-e c = search needs
@@ -18,8 +18,8 @@ enum-known-e c = search needs
 set-requires : tie.Need-set-requires
 set-requires c κs = search needs
 
-step-of-requires-2 : tie.Need-step-of-requires-2
-step-of-requires-2 c κs = search needs
+step-with-requires-2 : tie.Need-step-with-requires-2
+step-with-requires-2 c κs = search needs
 
 enum-known-e-2 : tie.Need-enum-known-e-2
 enum-known-e-2 c = search needs
@@ -27,8 +27,8 @@ enum-known-e-2 c = search needs
 adjust-requires : tie.Need-adjust-requires
 adjust-requires c κs = search needs
 
-step-of-requires-3 : tie.Need-step-of-requires-3
-step-of-requires-3 c κs = search needs
+step-with-requires-3 : tie.Need-step-with-requires-3
+step-with-requires-3 c κs = search needs
 
 enum-told-2 : tie.Need-enum-told-2
 enum-told-2 c = search needs
@@ -37,13 +37,13 @@ read-requires : tie.Need-read-requires
 read-requires c κs = search needs
 
 returns : tie.Need-returns
-returns c = simp (c .before .before .enum-told .given .1, c .step-of .ensures, c .before .tick .ensures)
+returns c = simp (c .before .before .enum-told .given .1, c .step-with .ensures, c .before .tick .ensures)
 
 returns-2 : tie.Need-returns-2
-returns-2 c = simp (c .before .before .before .e .given .1, c .step-of2 .ensures, c .before .set .ensures)
+returns-2 c = simp (c .before .before .before .e .given .1, c .step-with2 .ensures, c .before .set .ensures)
 
 returns-3 : tie.Need-returns-3
-returns-3 c = simp (c .before .before .before .e2 .given .1, c .step-of3 .ensures, c .before .adjust .ensures)
+returns-3 c = simp (c .before .before .before .e2 .given .1, c .step-with3 .ensures, c .before .adjust .ensures)
 
 returns-4 : tie.Need-returns-4
 returns-4 c = simp (c .before .before .enum-told2 .given .1, c .before .read .ensures)
@@ -54,13 +54,13 @@ step-spec =
     (tie.spec
     enum-told
     tick-requires
-    step-of-requires
+    step-with-requires
     enum-known-e
     set-requires
-    step-of-requires-2
+    step-with-requires-2
     enum-known-e-2
     adjust-requires
-    step-of-requires-3
+    step-with-requires-3
     enum-told-2
     read-requires
     returns
