@@ -8,6 +8,8 @@ ghost use Rattle.request.specs.Request.{interval, gainDivisor, gain, cla
 ghost use Rattle.request.specs.Inner.{greatestGain};
 use crate::units::AskedOffset;
 use clock::state::Clock;
+use clock::state::MAX_FREQUENCY;
+use clock::state::MIN_FREQUENCY;
 use clock::units::Frequency;
 
 // Seconds since the earlier update, at most 1,024.
@@ -58,11 +60,11 @@ pub(crate) fn clamped_sum(f: Frequency, g: Frequency) -> Frequency
     ensures { λ r. ⌜ r ≡ frequencyUnits (clamp (f .0 +ℤ g .0)) ⌝ }
 {
     let z = f.0 + g.0;
-    if z < -1677721600 {
-        return Frequency(-1677721600);
+    if z < MIN_FREQUENCY {
+        return Frequency(MIN_FREQUENCY);
     }
-    if 1677721600 < z {
-        return Frequency(1677721600);
+    if MAX_FREQUENCY < z {
+        return Frequency(MAX_FREQUENCY);
     }
     Frequency(z)
 }
