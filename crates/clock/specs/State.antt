@@ -52,20 +52,63 @@ atMost n z = leZ (negℤ (pos n)) z && leZ z (pos n)
 abbrev pub below : ℕ → ℤ → Bool
 below n z = ltZ (negℤ (pos n)) z && ltZ z (pos n)
 
--- The column "Range", a line for each row.
+-- The column "Range", a definition for each row: a saved record's fields are judged by the same.
+
+-- the last microsecond of a second
+abbrev pub lastMicro : ℕ
+lastMicro = 999999
+
+-- seconds, and the second of the earlier update
+abbrev pub secondRange : ℕ → Bool
+secondRange n = leb n lastSecond
+
+abbrev pub microsRange : ℕ → Bool
+microsRange n = leb n lastMicro
+
+abbrev pub phaseRange : ℤ → Bool
+phaseRange z = below phaseUnitsPerMicro z
+
+abbrev pub offsetRange : ℤ → Bool
+offsetRange z = atMost (greatestOffset * offsetUnitsPerMicro) z
+
+abbrev pub frequencyRange : ℤ → Bool
+frequencyRange z = atMost greatestFrequency z
+
+abbrev pub adjustmentRange : ℤ → Bool
+adjustmentRange z = leZ (device .least .0) z && leZ z (device .most .0)
+
+abbrev pub constantRange : ℕ → Bool
+constantRange n = leb n greatestConstant
+
+-- the flag of the earlier update
+abbrev pub flagRange : ℕ → Bool
+flagRange n = leb n 1
+
+-- its second is "0 if flag 0"
+abbrev pub zeroUnlessFlag : ℕ → ℕ → Bool
+zeroUnlessFlag flag second = eqb flag 1 || eqb second 0
+
+-- both errors
+abbrev pub errorRange : ℕ → Bool
+errorRange n = leb n greatestError
+
+abbrev pub statusRange : ℕ → Bool
+statusRange n = leb n statusBad
+
+-- a line for each row
 unfoldable pub inRange : Clock → Bool
 inRange c =
-    leb (c .seconds) lastSecond
-    && leb (c .micros .0) 999999
-    && below phaseUnitsPerMicro (c .phase .0)
-    && atMost (greatestOffset * offsetUnitsPerMicro) (c .offset .0)
-    && atMost greatestFrequency (c .frequency .0)
-    && (leZ (device .least .0) (c .adjustment .0) && leZ (c .adjustment .0) (device .most .0))
-    && leb (c .constant) greatestConstant
-    && (leb (c .updated) 1 && leb (c .reftime) lastSecond && (eqb (c .updated) 1 || eqb (c .reftime) 0))
-    && leb (c .maxerror .0) greatestError
-    && leb (c .esterror .0) greatestError
-    && leb (c .status) statusBad
+    secondRange (c .seconds)
+    && microsRange (c .micros .0)
+    && phaseRange (c .phase .0)
+    && offsetRange (c .offset .0)
+    && frequencyRange (c .frequency .0)
+    && adjustmentRange (c .adjustment .0)
+    && constantRange (c .constant)
+    && (flagRange (c .updated) && secondRange (c .reftime) && zeroUnlessFlag (c .updated) (c .reftime))
+    && errorRange (c .maxerror .0)
+    && errorRange (c .esterror .0)
+    && statusRange (c .status)
 
 -- The column "Fresh".
 abbrev pub freshClock : Clock

@@ -9,8 +9,31 @@ use crate::units::PhaseUnits;
 // The last second that the clock can tell.
 pub const LAST_SECOND: u32 = 4294967295;
 
+// The last microsecond of a second.
+pub const LAST_MICRO: u32 = 999999;
+
+// The phase stays below a microsecond, 2^28 phase units, either way.
+pub const PHASE_BELOW: i32 = 268435456;
+
+pub const PHASE_ABOVE: i32 = -PHASE_BELOW;
+
+// The most that can be left of an offset, either way: 127,999 us, in offset units.
+pub const MAX_OFFSET: i32 = 127999 * 16384;
+
+pub const MIN_OFFSET: i32 = -MAX_OFFSET;
+
+// The greatest frequency, either way: 100 ppm, in frequency units.
+pub const MAX_FREQUENCY: i32 = 100 * 16777216;
+
+pub const MIN_FREQUENCY: i32 = -MAX_FREQUENCY;
+
+pub const MAX_CONSTANT: u8 = 4;
+
 // The limit of both errors.
 pub const MAX_ERROR: u32 = 16000000;
+
+// The last of the status codes.
+pub const TIME_BAD: u8 = 4;
 
 // A clock's state, in the order of document 01's table. Any value of the type may be handed in, sound or not.
 pub struct Clock {
@@ -43,16 +66,16 @@ pub fn in_range(c: Clock) -> bool
 {
     // Every u32 is a second that can be told: those two tests cost nothing, and are here for the table's sake.
     (c.seconds <= LAST_SECOND)
-        & (c.micros.0 <= 999999)
-        & ((-268435456 < c.phase.0) & (c.phase.0 < 268435456))
-        & ((-2097135616 <= c.offset.0) & (c.offset.0 <= 2097135616))
-        & ((-1677721600 <= c.frequency.0) & (c.frequency.0 <= 1677721600))
+        & (c.micros.0 <= LAST_MICRO)
+        & ((PHASE_ABOVE < c.phase.0) & (c.phase.0 < PHASE_BELOW))
+        & ((MIN_OFFSET <= c.offset.0) & (c.offset.0 <= MAX_OFFSET))
+        & ((MIN_FREQUENCY <= c.frequency.0) & (c.frequency.0 <= MAX_FREQUENCY))
         & ((RECORDER.least.0 <= c.adjustment.0) & (c.adjustment.0 <= RECORDER.most.0))
-        & (c.constant <= 4)
+        & (c.constant <= MAX_CONSTANT)
         & ((c.updated <= 1) & (c.reftime <= LAST_SECOND) & ((c.updated == 1) | (c.reftime == 0)))
         & (c.maxerror.0 <= MAX_ERROR)
         & (c.esterror.0 <= MAX_ERROR)
-        & (c.status <= 4)
+        & (c.status <= TIME_BAD)
 }
 
 // The clock before anything has happened to it, which counts as set to 0 s.
@@ -72,6 +95,6 @@ pub fn fresh() -> Clock
         reftime: 0,
         maxerror: Micros(MAX_ERROR),
         esterror: Micros(MAX_ERROR),
-        status: 4,
+        status: TIME_BAD,
     }
 }
