@@ -1,0 +1,37 @@
+-- `record::restore::refused` meets its contract: the number of the field that was refused.
+use borrow.Author.Needs.{needs}
+use mathlib.Core.Path.{_≡_, sym, _∙_, ap}
+use Rattle.record.specs.declared.field.Field.{Field}
+use Rattle.record.specs.Field.{toldField}
+use Rattle.record.specs.Inner.{refusedAs}
+use Rattle.record.proofs.restore.refused.Statement.{statement}
+use Rattle.record.proofs.restore.refused.Tie as tie
+
+enum-known-d : tie.Need-enum-known-d
+enum-known-d c = search needs
+
+refused-with-requires : tie.Need-refused-with-requires
+refused-with-requires c κs = search needs
+
+enum-told : tie.Need-enum-told
+enum-told c = search needs
+
+refused-with-requires-2 : tie.Need-refused-with-requires-2
+refused-with-requires-2 c κs = search needs
+
+returns : tie.Need-returns
+returns c = c .refused-with .ensures ∙ ap (λ (d : Field). refusedAs (toldField d)) (sym (c .before .before .d .given .1))
+
+returns-2 : tie.Need-returns-2
+returns-2 c = c .refused-with2 .ensures ∙ ap (λ (d : Field). refusedAs (toldField d)) (sym (c .before .enum-told .given .1))
+
+pub refused-spec : {M : Type 1} → statement M
+refused-spec =
+    tie.close
+    (tie.spec
+    enum-known-d
+    refused-with-requires
+    enum-told
+    refused-with-requires-2
+    returns
+    returns-2)

@@ -1,0 +1,14 @@
+-- `record::restore::refused_with` meets its contract: the fresh clock beside the number.
+use borrow.Author.Needs.{needs}
+use mathlib.Core.Path.{ap}
+use Rattle.record.proofs.restore.refused_with.Statement.{statement}
+use Rattle.record.proofs.restore.refused_with.Tie as tie
+
+fresh-requires : tie.Need-fresh-requires
+fresh-requires c κs = search needs
+
+returns : tie.Need-returns
+returns c = rw (c .fresh .ensures)
+
+pub refused-with-spec : {M : Type 1} → statement M
+refused-with-spec = tie.close (tie.spec fresh-requires returns)

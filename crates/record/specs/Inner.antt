@@ -1,0 +1,89 @@
+-- What the reader's private functions answer: each takes its group of fields and those behind it, on the clock c that holds the fields
+-- read before. No public promise names these.
+use mathlib.Core.List.{List}
+use Prim.Native.Nat.{ℕ}
+use lib.IntN.{ℤ}
+use mathlib.Core.Bool.{cond}
+use lib.Dec.{eqb}
+use Rattle.number.specs.Mapping.{unmapped}
+use Rattle.number.specs.Reading.{Found, number, refused}
+use Rattle.clock.specs.Units.{micros, offsetUnits, phaseUnits, frequencyUnits}
+use Rattle.clock.specs.State.{lastSecond}
+use Rattle.clock.specs.declared.state.Clock.{Clock}
+use Rattle.record.specs.Reading.{refusedWith, ended, loopFields, updateFields, errorFields}
+use Rattle.record.specs.declared.restore.Restored.{Restored}
+
+-- the answer of a reading that a field ends
+abbrev pub refusedAs : Found → Restored
+refusedAs (number v next) = refusedWith 0
+refusedAs (refused n) = refusedWith n
+
+-- the largest second of an earlier update
+abbrev pub lastReftime : ℕ → ℕ
+lastReftime flag = cond (eqb flag 1) lastSecond 0
+
+abbrev pub errorPart : List ℕ → ℕ → Clock → Restored
+errorPart s at c =
+    errorFields s at (λ maxerror esterror status next.
+    ended s next
+    (record {
+      seconds = c .seconds;
+      micros = c .micros;
+      phase = c .phase;
+      offset = c .offset;
+      frequency = c .frequency;
+      adjustment = c .adjustment;
+      constant = c .constant;
+      updated = c .updated;
+      reftime = c .reftime;
+      maxerror = micros maxerror;
+      esterror = micros esterror;
+      status = status;
+    }))
+
+unfoldable pub fromErrors : List ℕ → ℕ → Clock → Restored
+fromErrors s at c = errorPart s at c
+
+abbrev pub updatePart : List ℕ → ℕ → Clock → Restored
+updatePart s at c =
+    updateFields s at (λ flag reftime next.
+    fromErrors s next
+    (record {
+      seconds = c .seconds;
+      micros = c .micros;
+      phase = c .phase;
+      offset = c .offset;
+      frequency = c .frequency;
+      adjustment = c .adjustment;
+      constant = c .constant;
+      updated = flag;
+      reftime = reftime;
+      maxerror = c .maxerror;
+      esterror = c .esterror;
+      status = c .status;
+    }))
+
+unfoldable pub fromUpdate : List ℕ → ℕ → Clock → Restored
+fromUpdate s at c = updatePart s at c
+
+abbrev pub loopPart : List ℕ → ℕ → Clock → Restored
+loopPart s at c =
+    loopFields s at (λ offset frequency adjustment constant next.
+    fromUpdate s next
+    (record {
+      seconds = c .seconds;
+      micros = c .micros;
+      phase = c .phase;
+      offset = offsetUnits (unmapped offset);
+      frequency = frequencyUnits (unmapped frequency);
+      adjustment = phaseUnits (unmapped adjustment);
+      constant = constant;
+      updated = c .updated;
+      reftime = c .reftime;
+      maxerror = c .maxerror;
+      esterror = c .esterror;
+      status = c .status;
+    }))
+
+unfoldable pub fromLoop : List ℕ → ℕ → Clock → Restored
+fromLoop s at c = loopPart s at c
