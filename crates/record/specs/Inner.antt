@@ -1,5 +1,4 @@
--- What the reader's private functions answer: each takes its group of fields and those behind it, on the clock c that holds the fields
--- read before. No public promise names these.
+-- What the reader's private functions answer. No public promise names these.
 use mathlib.Core.List.{List}
 use Prim.Native.Nat.{ℕ}
 use lib.IntN.{ℤ}
@@ -10,7 +9,7 @@ use Rattle.number.specs.Reading.{Found, number, refused}
 use Rattle.clock.specs.Units.{micros, offsetUnits, phaseUnits, frequencyUnits}
 use Rattle.clock.specs.State.{lastSecond}
 use Rattle.clock.specs.declared.state.Clock.{Clock}
-use Rattle.record.specs.Reading.{refusedWith, ended, loopFields, updateFields, errorFields}
+use Rattle.record.specs.Reading.{refusedWith, ended, timeFields, loopFields, updateFields, errorFields}
 use Rattle.record.specs.declared.restore.Restored.{Restored}
 
 -- the answer of a reading that a field ends
@@ -22,55 +21,28 @@ refusedAs (refused n) = refusedWith n
 abbrev pub lastReftime : ℕ → ℕ
 lastReftime flag = cond (eqb flag 1) lastSecond 0
 
-abbrev pub errorPart : List ℕ → ℕ → Clock → Restored
-errorPart s at c =
-    errorFields s at (λ maxerror esterror status next.
-    ended s next
-    (record {
-      seconds = c .seconds;
-      micros = c .micros;
-      phase = c .phase;
+-- ---- a clock with a group of its fields as a record holds them
+
+abbrev pub withTime : Clock → ℕ → ℕ → ℕ → Clock
+withTime c seconds us phase =
+    record {
+      seconds = seconds;
+      micros = micros us;
+      phase = phaseUnits (unmapped phase);
       offset = c .offset;
       frequency = c .frequency;
       adjustment = c .adjustment;
       constant = c .constant;
       updated = c .updated;
       reftime = c .reftime;
-      maxerror = micros maxerror;
-      esterror = micros esterror;
-      status = status;
-    }))
-
-unfoldable pub fromErrors : List ℕ → ℕ → Clock → Restored
-fromErrors s at c = errorPart s at c
-
-abbrev pub updatePart : List ℕ → ℕ → Clock → Restored
-updatePart s at c =
-    updateFields s at (λ flag reftime next.
-    fromErrors s next
-    (record {
-      seconds = c .seconds;
-      micros = c .micros;
-      phase = c .phase;
-      offset = c .offset;
-      frequency = c .frequency;
-      adjustment = c .adjustment;
-      constant = c .constant;
-      updated = flag;
-      reftime = reftime;
       maxerror = c .maxerror;
       esterror = c .esterror;
       status = c .status;
-    }))
+    }
 
-unfoldable pub fromUpdate : List ℕ → ℕ → Clock → Restored
-fromUpdate s at c = updatePart s at c
-
-abbrev pub loopPart : List ℕ → ℕ → Clock → Restored
-loopPart s at c =
-    loopFields s at (λ offset frequency adjustment constant next.
-    fromUpdate s next
-    (record {
+abbrev pub withLoop : Clock → ℕ → ℕ → ℕ → ℕ → Clock
+withLoop c offset frequency adjustment constant =
+    record {
       seconds = c .seconds;
       micros = c .micros;
       phase = c .phase;
@@ -83,7 +55,64 @@ loopPart s at c =
       maxerror = c .maxerror;
       esterror = c .esterror;
       status = c .status;
-    }))
+    }
+
+abbrev pub withUpdate : Clock → ℕ → ℕ → Clock
+withUpdate c flag reftime =
+    record {
+      seconds = c .seconds;
+      micros = c .micros;
+      phase = c .phase;
+      offset = c .offset;
+      frequency = c .frequency;
+      adjustment = c .adjustment;
+      constant = c .constant;
+      updated = flag;
+      reftime = reftime;
+      maxerror = c .maxerror;
+      esterror = c .esterror;
+      status = c .status;
+    }
+
+abbrev pub withErrors : Clock → ℕ → ℕ → ℕ → Clock
+withErrors c maxerror esterror status =
+    record {
+      seconds = c .seconds;
+      micros = c .micros;
+      phase = c .phase;
+      offset = c .offset;
+      frequency = c .frequency;
+      adjustment = c .adjustment;
+      constant = c .constant;
+      updated = c .updated;
+      reftime = c .reftime;
+      maxerror = micros maxerror;
+      esterror = micros esterror;
+      status = status;
+    }
+
+-- ---- a group of fields and those behind it, on the clock c with the fields before it
+
+abbrev pub errorPart : List ℕ → ℕ → Clock → Restored
+errorPart s at c = errorFields s at (λ maxerror esterror status next. ended s next (withErrors c maxerror esterror status))
+
+unfoldable pub fromErrors : List ℕ → ℕ → Clock → Restored
+fromErrors s at c = errorPart s at c
+
+abbrev pub updatePart : List ℕ → ℕ → Clock → Restored
+updatePart s at c = updateFields s at (λ flag reftime next. fromErrors s next (withUpdate c flag reftime))
+
+unfoldable pub fromUpdate : List ℕ → ℕ → Clock → Restored
+fromUpdate s at c = updatePart s at c
+
+abbrev pub loopPart : List ℕ → ℕ → Clock → Restored
+loopPart s at c = loopFields s at (λ offset frequency adjustment constant next. fromUpdate s next (withLoop c offset frequency adjustment constant))
 
 unfoldable pub fromLoop : List ℕ → ℕ → Clock → Restored
 fromLoop s at c = loopPart s at c
+
+abbrev pub timePart : List ℕ → ℕ → Clock → Restored
+timePart s at c = timeFields s at (λ seconds us phase next. fromLoop s next (withTime c seconds us phase))
+
+unfoldable pub fromTime : List ℕ → ℕ → Clock → Restored
+fromTime s at c = timePart s at c

@@ -2,11 +2,14 @@
 ghost use mathlib.Core.Path.{_≡_};
 ghost use Rattle.record.specs.Field.{toldField};
 ghost use Rattle.record.specs.Reading.{readingOf, refusedWith};
-ghost use Rattle.record.specs.Inner.{refusedAs, lastReftime, fromLoop, fromUpdate, fromErrors};
+ghost use Rattle.record.specs.Inner.{refusedAs, lastReftime, fromTime, fromLoop, fromUpdate, fromErrors};
+use crate::assemble::with_errors;
+use crate::assemble::with_loop;
+use crate::assemble::with_time;
+use crate::assemble::with_update;
 use crate::field::Field;
 use crate::field::plain;
 use crate::field::signed;
-use crate::field::unmapped_of;
 use crate::field::version;
 use clock::device::RECORDER;
 use clock::state::Clock;
@@ -22,10 +25,6 @@ use clock::state::PHASE_ABOVE;
 use clock::state::PHASE_BELOW;
 use clock::state::TIME_BAD;
 use clock::state::fresh;
-use clock::units::Frequency;
-use clock::units::Micros;
-use clock::units::OffsetUnits;
-use clock::units::PhaseUnits;
 
 const MIN_PHASE: i32 = PHASE_ABOVE + 1;
 
@@ -63,7 +62,7 @@ fn last_reftime(updated: u32) -> u32
     if updated == 1 { LAST_SECOND } else { 0 }
 }
 
-// The clock that the bytes are a record of: the version, the seconds, the microseconds and the phase; then the rest.
+// The clock that the bytes are a record of.
 pub fn read(bytes: &[u8]) -> Restored
     ensures { λ r. ⌜ r ≡ readingOf (now (bytes .entry)) ⌝ }
 {
@@ -71,7 +70,16 @@ pub fn read(bytes: &[u8]) -> Restored
     let Field::Value(_, n0) = d0 else {
         return refused(d0);
     };
-    let d1 = plain(bytes, n0, LAST_SECOND);
+    time_fields(bytes, n0, fresh())
+}
+
+// Each group of fields takes the clock with the fields before it, and hands it on to the next.
+
+// Seconds, microseconds and phase.
+fn time_fields(bytes: &[u8], at: usize, c: Clock) -> Restored
+    ensures { λ r. ⌜ r ≡ fromTime (now (bytes .entry)) at c ⌝ }
+{
+    let d1 = plain(bytes, at, LAST_SECOND);
     let Field::Value(seconds, n1) = d1 else {
         return refused(d1);
     };
@@ -83,16 +91,10 @@ pub fn read(bytes: &[u8]) -> Restored
     let Field::Value(phase, n3) = d3 else {
         return refused(d3);
     };
-    let c = Clock {
-        seconds: seconds,
-        micros: Micros(micros),
-        phase: PhaseUnits(unmapped_of(phase)),
-        ..fresh()
-    };
-    loop_fields(bytes, n3, c)
+    loop_fields(bytes, n3, with_time(c, seconds, micros, phase))
 }
 
-// Offset, frequency, adjustment and time constant; then the rest.
+// Offset left, frequency, adjustment and time constant.
 fn loop_fields(bytes: &[u8], at: usize, c: Clock) -> Restored
     ensures { λ r. ⌜ r ≡ fromLoop (now (bytes .entry)) at c ⌝ }
 {
@@ -112,17 +114,11 @@ fn loop_fields(bytes: &[u8], at: usize, c: Clock) -> Restored
     let Field::Value(constant, n7) = d7 else {
         return refused(d7);
     };
-    let d = Clock {
-        offset: OffsetUnits(unmapped_of(offset)),
-        frequency: Frequency(unmapped_of(frequency)),
-        adjustment: PhaseUnits(unmapped_of(adjustment)),
-        constant: constant as u8,
-        ..c
-    };
+    let d = with_loop(c, offset, frequency, adjustment, constant as u8);
     update_fields(bytes, n7, d)
 }
 
-// The earlier update: its flag and its second; then the rest.
+// The earlier update: its flag and its second.
 fn update_fields(bytes: &[u8], at: usize, c: Clock) -> Restored
     ensures { λ r. ⌜ r ≡ fromUpdate (now (bytes .entry)) at c ⌝ }
 {
@@ -134,12 +130,7 @@ fn update_fields(bytes: &[u8], at: usize, c: Clock) -> Restored
     let Field::Value(reftime, n9) = d9 else {
         return refused(d9);
     };
-    let d = Clock {
-        updated: updated as u8,
-        reftime: reftime,
-        ..c
-    };
-    error_fields(bytes, n9, d)
+    error_fields(bytes, n9, with_update(c, updated as u8, reftime))
 }
 
 // Both errors and the status, which are the last.
@@ -161,14 +152,8 @@ fn error_fields(bytes: &[u8], at: usize, c: Clock) -> Restored
     if n12 < bytes.len() {
         return refused_with(13);
     }
-    let d = Clock {
-        maxerror: Micros(maxerror),
-        esterror: Micros(esterror),
-        status: status as u8,
-        ..c
-    };
     Restored {
         refusal: 0,
-        clock: d,
+        clock: with_errors(c, maxerror, esterror, status as u8),
     }
 }

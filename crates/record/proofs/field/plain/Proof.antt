@@ -6,15 +6,6 @@ use Rattle.record.proofs.FieldLaws.{field-no, field-in, field-out}
 use Rattle.record.proofs.field.plain.Statement.{statement}
 use Rattle.record.proofs.field.plain.Tie as tie
 
-read-requires : tie.Need-read-requires
-read-requires c κs = search needs
-
-enum-known-n : tie.Need-enum-known-n
-enum-known-n c = search needs
-
-enum-known-value : tie.Need-enum-known-value
-enum-known-value c = search needs
-
 cast-t11 : tie.Need-cast-t11
 cast-t11 c = search needs
 
@@ -30,4 +21,4 @@ returns-3 c = let v = c .before .before in field-out _ _ _ (v .before .before .r
 pub plain-spec : {M : Type 1} → statement M
 plain-spec =
     tie.close
-    (tie.spec read-requires enum-known-n enum-known-value cast-t11 returns returns-2 returns-3)
+    (tie.spec (λ c κs. tt) (λ c. search needs) (λ c. search needs) cast-t11 returns returns-2 returns-3)

@@ -34,18 +34,6 @@ tested c =
     let a = start c .args in
     wide-test (fits-least (start c)) (fits-most (start c)) (fits-value c) ∙ ap (betweenZ (a .least) (a .most)) (c .unmap .ensures)
 
-read-requires : tie.Need-read-requires
-read-requires c κs = search needs
-
-enum-known-n : tie.Need-enum-known-n
-enum-known-n c = search needs
-
-enum-known-value : tie.Need-enum-known-value
-enum-known-value c = search needs
-
-unmap-requires : tie.Need-unmap-requires
-unmap-requires c κs = search needs
-
 cast-if1 : tie.Need-cast-if1
 cast-if1 c = rw (toZ-ofZ (fits-least (start c))) (widen (fits-least (start c)))
 
@@ -68,10 +56,10 @@ pub signed-spec : {M : Type 1} → statement M
 signed-spec =
     tie.close
     (tie.spec
-    read-requires
-    enum-known-n
-    enum-known-value
-    unmap-requires
+    (λ c κs. tt)
+    (λ c. search needs)
+    (λ c. search needs)
+    (λ c κs. tt)
     cast-if1
     cast-if1-2
     cast-t16

@@ -19,9 +19,6 @@ small c = unmapped-fits {w = w32} _ (omega arith)
 same : (c : tie.After-unmap) → toZ w64 (ofZ w64 (c .unmap .result)) ≡ unmapped (c .before .args .n)
 same c = rw (c .unmap .ensures) (toZ-ofZ (widen (small c)))
 
-unmap-requires : tie.Need-unmap-requires
-unmap-requires c κs = search needs
-
 cast-result : tie.Need-cast-result
 cast-result c = rw (same c) (small c)
 
@@ -29,4 +26,4 @@ returns : tie.Need-returns
 returns c = rw (same c) (toZ-ofZ (small c))
 
 pub unmapped-of-spec : {M : Type 1} → statement M
-unmapped-of-spec = tie.close (tie.spec unmap-requires cast-result returns)
+unmapped-of-spec = tie.close (tie.spec (λ c κs. tt) cast-result returns)

@@ -8,15 +8,6 @@ use Rattle.record.proofs.FieldLaws.{field-no, field-in, field-out}
 use Rattle.record.proofs.field.version.Statement.{statement}
 use Rattle.record.proofs.field.version.Tie as tie
 
-read-requires : tie.Need-read-requires
-read-requires c κs = search needs
-
-enum-known-n : tie.Need-enum-known-n
-enum-known-n c = search needs
-
-enum-known-value : tie.Need-enum-known-value
-enum-known-value c = search needs
-
 cast-if1 : tie.Need-cast-if1
 cast-if1 c = search needs
 
@@ -32,4 +23,4 @@ returns-3 c = let v = c .before .before in field-out _ _ _ (v .before .before .r
 pub version-spec : {M : Type 1} → statement M
 version-spec =
     tie.close
-    (tie.spec read-requires enum-known-n enum-known-value cast-if1 returns returns-2 returns-3)
+    (tie.spec (λ c κs. tt) (λ c. search needs) (λ c. search needs) cast-if1 returns returns-2 returns-3)

@@ -1,12 +1,13 @@
--- `record::restore::error_fields` meets its contract. Before each field a law says where the reading stands; a field that was
--- read takes it to the next, and one that was refused ends it.
+-- `record::restore::error_fields` meets its contract. Before each field a law says where the reading stands; a field that was read
+-- takes it to the next, and one that was refused ends it.
 use borrow.Author.Needs.{needs}
-use mathlib.Core.Path.{_≡_, refl, _∙_}
+use mathlib.Core.Path.{_≡_, refl, _∙_, ap}
 use mathlib.Core.List.{List}
 use Prim.Native.Nat.{ℕ}
 use lib.Dec.{lit<}
 use Rattle.clock.specs.declared.state.Clock.{Clock}
 use Rattle.record.specs.Field.{upTo}
+use Rattle.record.specs.Reading.{accepted}
 use Rattle.record.specs.Inner.{errorPart, fromErrors}
 use Rattle.record.proofs.Ranges.{byte}
 use Rattle.record.proofs.FieldLaws.{read-in}
@@ -30,87 +31,48 @@ b12 c = record { all = _; field = _; rest = _; is = went (b11 (c .before .before
 abbrev b13 : tie.After-known-told3 → AtEnd
 b13 c = record { all = _; bytes = _; at = _; clock = _; is = went (b12 (c .before .before .before .before)) (c .before .before .before .plain3 .ensures) (c .before .d12 .given .1) }
 
-plain-requires : tie.Need-plain-requires
-plain-requires c κs = search needs
-
-enum-known-d10 : tie.Need-enum-known-d10
-enum-known-d10 c = search needs
-
-enum-told : tie.Need-enum-told
-enum-told c = search needs
-
-refused-requires : tie.Need-refused-requires
-refused-requires c κs = search needs
-
 returns : tie.Need-returns
 returns c = stopped (b10 (c .before .before .before .before)) (c .before .before .before .plain .ensures) (c .before .enum-told .given .1) (c .refused .ensures)
-
-plain-requires-2 : tie.Need-plain-requires-2
-plain-requires-2 c κs = search needs
-
-enum-known-d11 : tie.Need-enum-known-d11
-enum-known-d11 c = search needs
-
-enum-told-2 : tie.Need-enum-told-2
-enum-told-2 c = search needs
-
-refused-requires-2 : tie.Need-refused-requires-2
-refused-requires-2 c κs = search needs
 
 returns-2 : tie.Need-returns-2
 returns-2 c = stopped (b11 (c .before .before .before .before)) (c .before .before .before .plain2 .ensures) (c .before .enum-told2 .given .1) (c .refused2 .ensures)
 
-cast-plain : tie.Need-cast-plain
-cast-plain c = search needs
-
-plain-requires-3 : tie.Need-plain-requires-3
-plain-requires-3 c κs = search needs
-
-enum-known-d12 : tie.Need-enum-known-d12
-enum-known-d12 c = search needs
-
-enum-told-3 : tie.Need-enum-told-3
-enum-told-3 c = search needs
-
-refused-requires-3 : tie.Need-refused-requires-3
-refused-requires-3 c κs = search needs
-
 returns-3 : tie.Need-returns-3
 returns-3 c = stopped (b12 (c .before .before .before .before)) (c .before .before .before .plain3 .ensures) (c .before .enum-told3 .given .1) (c .refused3 .ensures)
-
-refused-with-requires : tie.Need-refused-with-requires
-refused-with-requires c κs = search needs
 
 returns-4 : tie.Need-returns-4
 returns-4 c = c .refused-with .ensures ∙ ended-more (b13 (c .before .before)) (c .before .if1 .taken)
 
-cast-t19 : tie.Need-cast-t19
-cast-t19 c = let d = c .before in record { fits = byte 4 (lit< tt) (read-in (upTo 4) _ _ (d .before .before .before .plain3 .ensures) (d .before .d12 .given .1)) }
+cast-with-errors : tie.Need-cast-with-errors
+cast-with-errors c =
+    let d = c .before in
+    record { fits = byte 4 (lit< tt) (read-in (upTo 4) _ _ (d .before .before .before .plain3 .ensures) (d .before .d12 .given .1)) }
 
 returns-5 : tie.Need-returns-5
-returns-5 c = let i = c .before .before .before .before .before in ended-whole (b13 (i .before)) (i .if1 .left)
+returns-5 c = ap accepted (c .with-errors .ensures) ∙ ended-whole (b13 (c .before .before)) (c .before .if1 .left)
 
 pub error-fields-spec : {M : Type 1} → statement M
 error-fields-spec =
     tie.close
     (tie.spec
-    plain-requires
-    enum-known-d10
-    enum-told
-    refused-requires
+    (λ c κs. tt)
+    (λ c. search needs)
+    (λ c. search needs)
+    (λ c κs. tt)
     returns
-    plain-requires-2
-    enum-known-d11
-    enum-told-2
-    refused-requires-2
+    (λ c κs. tt)
+    (λ c. search needs)
+    (λ c. search needs)
+    (λ c κs. tt)
     returns-2
-    cast-plain
-    plain-requires-3
-    enum-known-d12
-    enum-told-3
-    refused-requires-3
+    (λ c. search needs)
+    (λ c κs. tt)
+    (λ c. search needs)
+    (λ c. search needs)
+    (λ c κs. tt)
     returns-3
-    refused-with-requires
+    (λ c κs. tt)
     returns-4
-    cast-t19
+    cast-with-errors
+    (λ c κs. tt)
     returns-5)

@@ -7,18 +7,6 @@ use Rattle.record.specs.Inner.{refusedAs}
 use Rattle.record.proofs.restore.refused.Statement.{statement}
 use Rattle.record.proofs.restore.refused.Tie as tie
 
-enum-known-d : tie.Need-enum-known-d
-enum-known-d c = search needs
-
-refused-with-requires : tie.Need-refused-with-requires
-refused-with-requires c κs = search needs
-
-enum-told : tie.Need-enum-told
-enum-told c = search needs
-
-refused-with-requires-2 : tie.Need-refused-with-requires-2
-refused-with-requires-2 c κs = search needs
-
 returns : tie.Need-returns
 returns c = c .refused-with .ensures ∙ ap (λ (d : Field). refusedAs (toldField d)) (sym (c .before .before .d .given .1))
 
@@ -29,9 +17,9 @@ pub refused-spec : {M : Type 1} → statement M
 refused-spec =
     tie.close
     (tie.spec
-    enum-known-d
-    refused-with-requires
-    enum-told
-    refused-with-requires-2
+    (λ c. search needs)
+    (λ c κs. tt)
+    (λ c. search needs)
+    (λ c κs. tt)
     returns
     returns-2)

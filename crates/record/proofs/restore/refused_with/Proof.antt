@@ -4,11 +4,8 @@ use mathlib.Core.Path.{ap}
 use Rattle.record.proofs.restore.refused_with.Statement.{statement}
 use Rattle.record.proofs.restore.refused_with.Tie as tie
 
-fresh-requires : tie.Need-fresh-requires
-fresh-requires c κs = search needs
-
 returns : tie.Need-returns
 returns c = rw (c .fresh .ensures)
 
 pub refused-with-spec : {M : Type 1} → statement M
-refused-with-spec = tie.close (tie.spec fresh-requires returns)
+refused-with-spec = tie.close (tie.spec (λ c κs. tt) returns)

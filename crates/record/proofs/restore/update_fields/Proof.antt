@@ -1,4 +1,5 @@
--- `record::restore::update_fields` meets its contract. Before each field a law says where the reading stands; a field that was read takes it to the next, and one that was refused ends it.
+-- `record::restore::update_fields` meets its contract. Before each field a law says where the reading stands; a field that was read
+-- takes it to the next, and one that was refused ends it.
 use borrow.Author.Needs.{needs}
 use mathlib.Core.Path.{_≡_, refl, sym, _∙_}
 use mathlib.Core.List.{List}
@@ -23,63 +24,43 @@ b8 c = record { all = _; field = _; rest = _; is = opened (c .before .args .byte
 abbrev b9 : tie.After-known-told → Before
 b9 c = record { all = _; field = _; rest = _; is = went (b8 (c .before .before .before .before)) (c .before .before .before .plain .ensures) (c .before .d8 .given .1) }
 
-plain-requires : tie.Need-plain-requires
-plain-requires c κs = search needs
-
-enum-known-d8 : tie.Need-enum-known-d8
-enum-known-d8 c = search needs
-
-enum-told : tie.Need-enum-told
-enum-told c = search needs
-
-refused-requires : tie.Need-refused-requires
-refused-requires c κs = search needs
-
 returns : tie.Need-returns
 returns c = stopped (b8 (c .before .before .before .before)) (c .before .before .before .plain .ensures) (c .before .enum-told .given .1) (c .refused .ensures)
 
-last-reftime-requires : tie.Need-last-reftime-requires
-last-reftime-requires c κs = search needs
-
-plain-requires-2 : tie.Need-plain-requires-2
-plain-requires-2 c κs = search needs
-
-enum-known-d9 : tie.Need-enum-known-d9
-enum-known-d9 c = search needs
-
-enum-told-2 : tie.Need-enum-told-2
-enum-told-2 c = search needs
-
-refused-requires-2 : tie.Need-refused-requires-2
-refused-requires-2 c κs = search needs
-
 returns-2 : tie.Need-returns-2
-returns-2 c = stopped (b9 (c .before .before .before .before .before)) (c .before .before .before .plain2 .ensures ∙ reftime-field _ _ (c .before .before .before .before .before .before .d8 .given .0 .0) (c .before .before .before .before .last-reftime .ensures)) (c .before .enum-told2 .given .1) (c .refused2 .ensures)
+returns-2 c =
+    stopped (b9 (c .before .before .before .before .before))
+    (c .before .before .before .plain2 .ensures ∙ reftime-field _ _ (c .before .before .before .before .before .before .d8 .given .0 .0) (c .before .before .before .before .last-reftime .ensures))
+    (c .before .enum-told2 .given .1) (c .refused2 .ensures)
 
-cast-t12 : tie.Need-cast-t12
-cast-t12 c = let d = c .before .before .before .before .before in record { fits = byte 1 (lit< tt) (read-in (upTo 1) _ _ (d .before .before .before .plain .ensures) (d .before .d8 .given .1)) }
-
-error-fields-requires : tie.Need-error-fields-requires
-error-fields-requires c κs = search needs
+cast-with-update : tie.Need-cast-with-update
+cast-with-update c =
+    let d = c .before .before .before .before .before in
+    record { fits = byte 1 (lit< tt) (read-in (upTo 1) _ _ (d .before .before .before .plain .ensures) (d .before .d8 .given .1)) }
 
 returns-3 : tie.Need-returns-3
-returns-3 c = let d = c .before .before .before .before .before .before .before .before in c .error-fields .ensures ∙ sym (went (b9 (d .before .before .before .before .before)) (d .before .before .before .plain2 .ensures ∙ reftime-field _ _ (d .before .before .before .before .before .before .d8 .given .0 .0) (d .before .before .before .before .last-reftime .ensures)) (d .before .d9 .given .1))
+returns-3 c =
+    let d = c .before .before in
+    c .error-fields .ensures
+    ∙ rw (c .before .with-update .ensures)
+    (sym (went (b9 (d .before .before .before .before .before)) (d .before .before .before .plain2 .ensures ∙ reftime-field _ _ (d .before .before .before .before .before .before .d8 .given .0 .0) (d .before .before .before .before .last-reftime .ensures)) (d .before .d9 .given .1)))
 
 pub update-fields-spec : {M : Type 1} → statement M
 update-fields-spec =
     tie.close
     (tie.spec
-    plain-requires
-    enum-known-d8
-    enum-told
-    refused-requires
+    (λ c κs. tt)
+    (λ c. search needs)
+    (λ c. search needs)
+    (λ c κs. tt)
     returns
-    last-reftime-requires
-    plain-requires-2
-    enum-known-d9
-    enum-told-2
-    refused-requires-2
+    (λ c κs. tt)
+    (λ c κs. tt)
+    (λ c. search needs)
+    (λ c. search needs)
+    (λ c κs. tt)
     returns-2
-    cast-t12
-    error-fields-requires
+    cast-with-update
+    (λ c κs. tt)
+    (λ c κs. tt)
     returns-3)

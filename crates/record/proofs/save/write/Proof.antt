@@ -16,20 +16,11 @@ whole : (c : tie.After-numbers) → bytesOfAll (c .numbers .result) ≡ recordOf
 unfolding recordOf
 whole c = ap bytesOfAll (c .numbers .ensures)
 
-in-range-requires : tie.Need-in-range-requires
-in-range-requires c κs = search needs
-
 returns : tie.Need-returns
 returns c = out-of-range _ _ (sym (c .before .in-range .ensures) ∙ not-true _ (c .if1 .taken))
 
-numbers-requires : tie.Need-numbers-requires
-numbers-requires c κs = search needs
-
 slice-aggregate-write-all : tie.Need-slice-aggregate-write-all
 slice-aggregate-write-all c = search needs
-
-write-all-requires : tie.Need-write-all-requires
-write-all-requires c κs = search needs
 
 same-length : tie.Need-same-length
 same-length c = search needs
@@ -48,10 +39,10 @@ pub write-spec : {M : Type 1} → statement M
 write-spec =
     tie.close
     (tie.spec
-    in-range-requires
+    (λ c κs. tt)
     returns
-    numbers-requires
+    (λ c κs. tt)
     slice-aggregate-write-all
-    write-all-requires
+    (λ c κs. tt)
     same-length
     returns-2)
