@@ -3,7 +3,7 @@ use mathlib.Core.Path.{_≡_, refl, sym, _∙_, ap}
 use mathlib.Core.Bool.{Bool, true, false}
 use mathlib.Core.List.{List}
 use mathlib.Core.Logic.{⊎-elim}
-use Prim.Native.Nat.{ℕ, _<_, _≤_}
+use Prim.Native.Nat.{ℕ}
 use native.Mathlib.Omega.{arith}
 use lib.IntN.{pos, negsuc}
 use Rattle.number.specs.declared.decode.Decoded.{Decoded}
@@ -12,9 +12,9 @@ use Rattle.number.specs.Reading.{Found, number, refused, numberAt, told}
 use Rattle.number.proofs.Lists.{either}
 use Rattle.number.specs.Mapping.{unmapped}
 use Rattle.clock.specs.State.{phaseRange}
-use Rattle.record.specs.Field.{judgedBy, fieldAt, toldField, mappedRange, upTo, betweenZ}
+use Rattle.record.specs.Field.{judgedBy, fieldAt, mappedRange}
 use Rattle.record.specs.Reading.{reftimeRange}
-use Rattle.record.specs.Inner.{lastReftime}
+use Rattle.record.specs.Inner.{toldField, upTo, betweenZ, lastReftime}
 use Rattle.record.proofs.Ranges.{phase-bounds, reftime-bounds}
 use Rattle.record.specs.declared.field.Field.{Field}
 use Rattle.record.specs.declared.field.Field.the-variants as F

@@ -2,23 +2,22 @@
 use mathlib.Core.Path.{_≡_, refl, sym, _∙_, ap}
 use mathlib.Core.Bool.{Bool, true, false, _&&_, false≢true}
 use mathlib.Core.Logic.{⊎-elim}
-use Prim.Native.Nat.{ℕ, zero, suc, _+_, _*_, _^_, _<_, _≤_}
+use Prim.Native.Nat.{ℕ, zero, suc, _^_, _<_}
 use native.Mathlib.Omega.{arith}
-use lib.Dec.{leb, ltb, eqb, leb·suc-suc}
+use lib.Dec.{leb, eqb, leb·suc-suc}
 use lib.IntN.{ℤ, pos, negsuc}
-use lib.Signed.{mag, leZ}
+use lib.Signed.{leZ}
 use mir.Syntax.{w32, w64}
 use mir.Val.{SFits, toZ, ofZ}
 use mir.Facts.{toZ-ofZ}
-use borrow.Author.Tests.{leb-true, le-leb, lt-leb, eqb-true, eqb-false, eq-eqb, ne-eqb}
+use borrow.Author.Tests.{leb-true, lt-leb, ne-eqb}
 use Rattle.number.specs.Mapping.{unmapped}
 use Rattle.number.proofs.Mapping.{mapped-unmapped, mapped-fits}
 use Rattle.number.proofs.Lists.{either}
 use Rattle.integers.proofs.Ranges.{and-true}
-use Rattle.clock.specs.State.{lastSecond, phaseRange, zeroUnlessFlag}
-use Rattle.record.specs.Field.{upTo, betweenZ}
+use Rattle.clock.specs.State.{lastSecond, phaseRange}
 use Rattle.record.specs.Reading.{reftimeRange}
-use Rattle.record.specs.Inner.{lastReftime}
+use Rattle.record.specs.Inner.{upTo, betweenZ, lastReftime}
 
 -- above -2^28 and below 2^28
 pub phase-bounds : (z : ℤ) → betweenZ (negsuc 268435454) (pos 268435455) z ≡ phaseRange z

@@ -1,13 +1,13 @@
 -- The theorems on records: each proves a statement of specs/Properties.antt. Thirteen fields are thirteen citations of a law of `Chains`.
 use mathlib.Core.Path.{_≡_, refl, sym, _∙_, ap, subst}
-use mathlib.Core.Bool.{Bool, true, false}
-use mathlib.Core.List.{List, [], _∷_, _++_, append-nil}
+use mathlib.Core.Bool.{Bool, true}
+use mathlib.Core.List.{List, [], _++_, append-nil}
 use mathlib.Core.Logic.{⊎-elim}
-use Prim.Native.Nat.{ℕ, _+_, _*_, _^_, _<_, _≤_}
+use Prim.Native.Nat.{ℕ, _^_, _<_, _≤_}
 use native.Mathlib.Omega.{arith}
-use lib.Dec.{eqb, leb, ltb, lit<}
+use lib.Dec.{ltb, lit<}
 use lib.IntN.{ℤ, pos, negsuc}
-use lib.ListN.{length, take, drop}
+use lib.ListN.{length, drop}
 use lib.Seq.{take-append-seam, drop-append-seam}
 use borrow.Author.Tests.{eqb-true, ltb-true, ltb-false}
 use Rattle.integers.proofs.Parts.{posPart, negPart}
@@ -15,23 +15,23 @@ use Rattle.integers.proofs.Ranges.{and-true, true-and}
 use Rattle.number.specs.Form.{bytesOf, bytesFrom, bytesOfAll}
 use Rattle.number.specs.Mapping.{mapped, unmapped}
 use Rattle.number.proofs.Lists.{either}
-use Rattle.number.proofs.Chain.{Remaining, _◂_, remaining-none}
+use Rattle.number.proofs.Chain.{_◂_, remaining-none}
 use Rattle.number.proofs.Mapping.{unmapped-mapped}
 use Rattle.number.proofs.Sizes.{sizes-below, sizes-none}
 use Rattle.number.proofs.WrittenRead.{Holds}
 use Rattle.clock.specs.Units.{micros, offsetUnits, phaseUnits, frequencyUnits}
-use Rattle.clock.specs.State.{inRange, freshClock, secondRange, microsRange, phaseRange, offsetRange, frequencyRange, adjustmentRange, constantRange, flagRange, zeroUnlessFlag, errorRange, statusRange}
+use Rattle.clock.specs.State.{inRange, freshClock, secondRange, microsRange, phaseRange, offsetRange, frequencyRange, adjustmentRange, constantRange, flagRange, errorRange, statusRange}
 use Rattle.clock.proofs.Ok.{Ok, ok}
 use Rattle.clock.specs.declared.state.Clock.{Clock}
 use Rattle.record.specs.Layout.{version, knownVersion, numbersOf, recordOf}
 use Rattle.record.specs.Field.{mappedRange}
-use Rattle.record.specs.Reading.{readingOf, reftimeRange, ended, accepted, refusedWith}
-use Rattle.record.specs.Saving.{savingOf, savingRefusal, bufferAfter}
-use Rattle.record.specs.Properties.{freshRecord, greatestLength, LongestIs, ReadsBack, NothingFollows, Bytes, Whole, OneForm, RefusedIsFresh, Kept, SavedIsKept}
+use Rattle.record.specs.Reading.{readingOf, reftimeRange, ended, accepted}
+use Rattle.record.specs.Saving.{savingOf, bufferAfter}
+use Rattle.record.specs.Properties.{freshRecord, greatestLength, LongestIs, ReadsBack, NothingFollows, Bytes, OneForm, RefusedIsFresh, SavedIsKept}
 use Rattle.record.specs.declared.restore.Restored.{Restored}
 use Rattle.record.specs.declared.save.Saved.{Saved}
 use Rattle.record.proofs.SavingLaws.{out-of-range, too-short, stored}
-use Rattle.record.proofs.Chains.{Ahead, there, there-end, there-more, was, was-end, holds-mapped, Fair, fair, fair-end}
+use Rattle.record.proofs.Chains.{Ahead, there, there-end, there-more, was, was-end, holds-mapped, fair, fair-end}
 
 -- ---- the fields of a clock in range
 
@@ -250,6 +250,7 @@ unfolding recordOf numbersOf
 no-longer c e =
     let n = ok c e in
     let m = small c n in
+    let h : length (bytesOfAll (numbersOf c)) ≤ 45 =
     sizes-below 0 44 _ _ (lit< tt)
     (sizes-below 4 39 _ _ (omega (arith, n .seconds))
     (sizes-below 2 36 _ _ (omega (arith, n .micros))
@@ -262,7 +263,8 @@ no-longer c e =
     (sizes-below 4 9 _ _ (omega (arith, n .reftime))
     (sizes-below 3 5 _ _ (omega (arith, n .maxerror))
     (sizes-below 3 1 _ _ (omega (arith, n .esterror))
-    (sizes-below 0 0 _ _ (omega (arith, n .status)) sizes-none))))))))))))
+    (sizes-below 0 0 _ _ (omega (arith, n .status)) sizes-none)))))))))))) in
+    omega arith
 
 -- each field at its greatest
 abbrev greatest : Clock

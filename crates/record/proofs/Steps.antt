@@ -4,11 +4,10 @@ use mathlib.Core.List.{List}
 use Prim.Native.Nat.{ℕ, _<_, _≤_}
 use lib.ListN.{length}
 use borrow.Author.Tests.{lt-ltb, le-ltb}
-use Rattle.number.specs.Reading.{Found, number, refused}
+use Rattle.number.specs.Reading.{Found}
 use Rattle.clock.specs.declared.state.Clock.{Clock}
-use Rattle.record.specs.Field.{toldField}
 use Rattle.record.specs.Reading.{then, ended, refusedWith, accepted}
-use Rattle.record.specs.Inner.{refusedAs}
+use Rattle.record.specs.Inner.{toldField, refusedAs}
 use Rattle.record.specs.declared.field.Field.{Field}
 use Rattle.record.specs.declared.field.Field.the-variants as F
 use Rattle.record.specs.declared.restore.Restored.{Restored}

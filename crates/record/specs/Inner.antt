@@ -2,15 +2,31 @@
 use mathlib.Core.List.{List}
 use Prim.Native.Nat.{ℕ}
 use lib.IntN.{ℤ}
-use mathlib.Core.Bool.{cond}
-use lib.Dec.{eqb}
+use mathlib.Core.Bool.{Bool, cond, _&&_}
+use lib.Dec.{leb, eqb}
+use lib.Signed.{leZ}
 use Rattle.number.specs.Mapping.{unmapped}
 use Rattle.number.specs.Reading.{Found, number, refused}
 use Rattle.clock.specs.Units.{micros, offsetUnits, phaseUnits, frequencyUnits}
 use Rattle.clock.specs.State.{lastSecond}
 use Rattle.clock.specs.declared.state.Clock.{Clock}
 use Rattle.record.specs.Reading.{refusedWith, ended, timeFields, loopFields, updateFields, errorFields}
+use Rattle.record.specs.declared.field.Field.{Field}
+use Rattle.record.specs.declared.field.Field.the-variants as F
 use Rattle.record.specs.declared.restore.Restored.{Restored}
+
+-- what each case of a field reader's answer says
+abbrev pub toldField : Field → Found
+toldField (F.Value value next) = number value next
+toldField (F.Refused refusal) = refused refusal
+
+-- 0 to most
+abbrev pub upTo : ℕ → ℕ → Bool
+upTo most n = leb n most
+
+-- least to most
+abbrev pub betweenZ : ℤ → ℤ → ℤ → Bool
+betweenZ least most z = leZ least z && leZ z most
 
 -- the answer of a reading that a field ends
 abbrev pub refusedAs : Found → Restored

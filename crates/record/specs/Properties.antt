@@ -1,11 +1,10 @@
 -- What holds of all records: the statements that the crate proves of the definitions (in its proofs/Records.antt), for whoever wants to
 -- know what the field-by-field definitions come to.
 use mathlib.Core.Path.{_≡_}
-use mathlib.Core.Bool.{true, cond}
+use mathlib.Core.Bool.{true}
 use mathlib.Core.List.{List, [], _∷_, _++_}
 use mathlib.Core.Logic.{_⊎_}
 use Prim.Native.Nat.{ℕ, _<_, _≤_}
-use lib.Dec.{eqb}
 use lib.ListN.{length, getD, take, drop}
 use Rattle.clock.specs.State.{inRange, freshClock}
 use Rattle.clock.specs.declared.state.Clock.{Clock}

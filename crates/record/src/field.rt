@@ -1,7 +1,8 @@
 // One field of a record: a number at a place, and its range.
 ghost use mathlib.Core.Path.{_≡_};
 ghost use Rattle.number.specs.Mapping.{unmapped};
-ghost use Rattle.record.specs.Field.{toldField, fieldAt, upTo, mappedRange, betweenZ};
+ghost use Rattle.record.specs.Field.{fieldAt, mappedRange};
+ghost use Rattle.record.specs.Inner.{toldField, upTo, betweenZ};
 ghost use Rattle.record.specs.Layout.{knownVersion};
 use crate::layout::VERSION;
 use number::decode::Decoded;

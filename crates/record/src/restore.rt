@@ -1,8 +1,7 @@
 // Reading a clock's record.
 ghost use mathlib.Core.Path.{_≡_};
-ghost use Rattle.record.specs.Field.{toldField};
 ghost use Rattle.record.specs.Reading.{readingOf, refusedWith};
-ghost use Rattle.record.specs.Inner.{refusedAs, lastReftime, fromTime, fromLoop, fromUpdate, fromErrors};
+ghost use Rattle.record.specs.Inner.{toldField, refusedAs, lastReftime, fromTime, fromLoop, fromUpdate, fromErrors};
 use crate::assemble::with_errors;
 use crate::assemble::with_loop;
 use crate::assemble::with_time;

@@ -1,6 +1,5 @@
 -- `record::field::plain` meets its contract: the test is the range.
 use borrow.Author.Needs.{needs}
-use mathlib.Core.Path.{sym}
 use borrow.Author.Tests.{le-leb, lt-leb}
 use Rattle.record.proofs.FieldLaws.{field-no, field-in, field-out}
 use Rattle.record.proofs.field.plain.Statement.{statement}

@@ -1,13 +1,11 @@
 -- `record::field::signed` meets its contract: the tests on 64 bits are the range, and what is in it has 32 bits.
 use borrow.Author.Needs.{needs}
 use mathlib.Core.Path.{_≡_, sym, _∙_, ap}
-use mathlib.Core.Bool.{Bool}
-use lib.IntN.{ℤ}
 use mir.Syntax.{w32, w64}
 use mir.Val.{SFits, toZ, ofZ}
 use mir.Facts.{toZ-ofZ}
 use Rattle.number.specs.Mapping.{unmapped}
-use Rattle.record.specs.Field.{betweenZ}
+use Rattle.record.specs.Inner.{betweenZ}
 use Rattle.record.proofs.FieldLaws.{field-no, field-in, field-out}
 use Rattle.record.proofs.Ranges.{widen, wide-test, mapped-small}
 use Rattle.record.proofs.field.signed.Statement.{statement}

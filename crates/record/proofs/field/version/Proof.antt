@@ -1,6 +1,6 @@
 -- `record::field::version` meets its contract: the one known version.
 use borrow.Author.Needs.{needs}
-use mathlib.Core.Path.{_≡_, sym, _∙_, ap}
+use mathlib.Core.Path.{sym, _∙_, ap}
 use Prim.Native.Nat.{ℕ}
 use Rattle.number.specs.Reading.{number}
 use borrow.Author.Tests.{eq-eqb, ne-eqb}

@@ -6,9 +6,8 @@ use mathlib.Core.List.{List}
 use Prim.Native.Nat.{ℕ}
 use lib.Dec.{lit<}
 use Rattle.clock.specs.declared.state.Clock.{Clock}
-use Rattle.record.specs.Field.{upTo}
 use Rattle.record.specs.Reading.{accepted}
-use Rattle.record.specs.Inner.{errorPart, fromErrors}
+use Rattle.record.specs.Inner.{upTo, errorPart, fromErrors}
 use Rattle.record.proofs.Ranges.{byte}
 use Rattle.record.proofs.FieldLaws.{read-in}
 use Rattle.record.proofs.Steps.{Before, AtEnd, went, stopped, ended-more, ended-whole}
@@ -56,19 +55,19 @@ error-fields-spec =
     tie.close
     (tie.spec
     (λ c κs. tt)
-    (λ c. search needs)
-    (λ c. search needs)
+    (λ c. c .match .keys1)
+    (λ c. c .match .keys2)
     (λ c κs. tt)
     returns
     (λ c κs. tt)
-    (λ c. search needs)
-    (λ c. search needs)
+    (λ c. c .match2 .keys1)
+    (λ c. c .match2 .keys2)
     (λ c κs. tt)
     returns-2
     (λ c. search needs)
     (λ c κs. tt)
-    (λ c. search needs)
-    (λ c. search needs)
+    (λ c. c .match3 .keys1)
+    (λ c. c .match3 .keys2)
     (λ c κs. tt)
     returns-3
     (λ c κs. tt)

@@ -6,8 +6,7 @@ use mathlib.Core.List.{List}
 use Prim.Native.Nat.{ℕ}
 use lib.Dec.{lit<}
 use Rattle.clock.specs.declared.state.Clock.{Clock}
-use Rattle.record.specs.Field.{upTo}
-use Rattle.record.specs.Inner.{loopPart, fromLoop}
+use Rattle.record.specs.Inner.{upTo, loopPart, fromLoop}
 use Rattle.record.proofs.Ranges.{byte}
 use Rattle.record.proofs.FieldLaws.{read-in}
 use Rattle.record.proofs.Steps.{Before, went, stopped}
@@ -57,24 +56,24 @@ loop-fields-spec =
     tie.close
     (tie.spec
     (λ c κs. tt)
-    (λ c. search needs)
-    (λ c. search needs)
+    (λ c. c .match .keys1)
+    (λ c. c .match .keys2)
     (λ c κs. tt)
     returns
     (λ c κs. tt)
-    (λ c. search needs)
-    (λ c. search needs)
+    (λ c. c .match2 .keys1)
+    (λ c. c .match2 .keys2)
     (λ c κs. tt)
     returns-2
     (λ c κs. tt)
-    (λ c. search needs)
-    (λ c. search needs)
+    (λ c. c .match3 .keys1)
+    (λ c. c .match3 .keys2)
     (λ c κs. tt)
     returns-3
     (λ c. search needs)
     (λ c κs. tt)
-    (λ c. search needs)
-    (λ c. search needs)
+    (λ c. c .match4 .keys1)
+    (λ c. c .match4 .keys2)
     (λ c κs. tt)
     returns-4
     cast-with-loop

@@ -1,9 +1,8 @@
 -- `record::restore::refused` meets its contract: the number of the field that was refused.
 use borrow.Author.Needs.{needs}
-use mathlib.Core.Path.{_≡_, sym, _∙_, ap}
+use mathlib.Core.Path.{sym, _∙_, ap}
 use Rattle.record.specs.declared.field.Field.{Field}
-use Rattle.record.specs.Field.{toldField}
-use Rattle.record.specs.Inner.{refusedAs}
+use Rattle.record.specs.Inner.{toldField, refusedAs}
 use Rattle.record.proofs.restore.refused.Statement.{statement}
 use Rattle.record.proofs.restore.refused.Tie as tie
 

@@ -1,6 +1,4 @@
 -- `record::restore::refused_with` meets its contract: the fresh clock beside the number.
-use borrow.Author.Needs.{needs}
-use mathlib.Core.Path.{ap}
 use Rattle.record.proofs.restore.refused_with.Statement.{statement}
 use Rattle.record.proofs.restore.refused_with.Tie as tie
 

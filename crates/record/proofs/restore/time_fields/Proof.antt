@@ -1,6 +1,5 @@
 -- `record::restore::time_fields` meets its contract. Before each field a law says where the reading stands; a field that was read takes
 -- it to the next, and one that was refused ends it.
-use borrow.Author.Needs.{needs}
 use mathlib.Core.Path.{_≡_, refl, sym, _∙_}
 use mathlib.Core.List.{List}
 use Prim.Native.Nat.{ℕ}
@@ -45,18 +44,18 @@ time-fields-spec =
     tie.close
     (tie.spec
     (λ c κs. tt)
-    (λ c. search needs)
-    (λ c. search needs)
+    (λ c. c .match .keys1)
+    (λ c. c .match .keys2)
     (λ c κs. tt)
     returns
     (λ c κs. tt)
-    (λ c. search needs)
-    (λ c. search needs)
+    (λ c. c .match2 .keys1)
+    (λ c. c .match2 .keys2)
     (λ c κs. tt)
     returns-2
     (λ c κs. tt)
-    (λ c. search needs)
-    (λ c. search needs)
+    (λ c. c .match3 .keys1)
+    (λ c. c .match3 .keys2)
     (λ c κs. tt)
     returns-3
     (λ c κs. tt)

@@ -1,13 +1,11 @@
 -- `record::restore::update_fields` meets its contract. Before each field a law says where the reading stands; a field that was read
 -- takes it to the next, and one that was refused ends it.
-use borrow.Author.Needs.{needs}
 use mathlib.Core.Path.{_≡_, refl, sym, _∙_}
 use mathlib.Core.List.{List}
 use Prim.Native.Nat.{ℕ}
 use lib.Dec.{lit<}
 use Rattle.clock.specs.declared.state.Clock.{Clock}
-use Rattle.record.specs.Field.{upTo}
-use Rattle.record.specs.Inner.{updatePart, fromUpdate}
+use Rattle.record.specs.Inner.{upTo, updatePart, fromUpdate}
 use Rattle.record.proofs.Ranges.{byte}
 use Rattle.record.proofs.FieldLaws.{read-in, reftime-field}
 use Rattle.record.proofs.Steps.{Before, went, stopped}
@@ -50,14 +48,14 @@ update-fields-spec =
     tie.close
     (tie.spec
     (λ c κs. tt)
-    (λ c. search needs)
-    (λ c. search needs)
+    (λ c. c .match .keys1)
+    (λ c. c .match .keys2)
     (λ c κs. tt)
     returns
     (λ c κs. tt)
     (λ c κs. tt)
-    (λ c. search needs)
-    (λ c. search needs)
+    (λ c. c .match2 .keys1)
+    (λ c. c .match2 .keys2)
     (λ c κs. tt)
     returns-2
     cast-with-update

@@ -2,9 +2,6 @@
 use borrow.Author.Needs.{needs}
 use borrow.Author.Tests.{not-true, not-false}
 use mathlib.Core.Path.{_≡_, sym, _∙_, ap}
-use mathlib.Core.Bool.{true}
-use mathlib.Core.List.{List}
-use Prim.Native.Nat.{ℕ}
 use Rattle.number.specs.Form.{bytesOfAll}
 use Rattle.number.specs.Writing.{answered, filled}
 use Rattle.record.specs.Layout.{recordOf}
