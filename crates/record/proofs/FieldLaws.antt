@@ -1,0 +1,76 @@
+-- A field, by what the number reader told: one law for each case of the code. And what is known of every field that was read.
+use mathlib.Core.Path.{_≡_, refl, sym, _∙_, ap}
+use mathlib.Core.Bool.{Bool, true, false}
+use mathlib.Core.List.{List}
+use mathlib.Core.Logic.{⊎-elim}
+use Prim.Native.Nat.{ℕ}
+use native.Mathlib.Omega.{arith}
+use lib.IntN.{pos, negsuc}
+use Rattle.number.specs.declared.decode.Decoded.{Decoded}
+use Rattle.number.specs.declared.decode.Decoded.the-variants as D
+use Rattle.number.specs.Reading.{Found, number, refused, numberAt, told}
+use Rattle.number.proofs.Lists.{either}
+use Rattle.number.specs.Mapping.{unmapped}
+use Rattle.clock.specs.State.{phaseRange}
+use Rattle.record.specs.Field.{judgedBy, fieldAt, mappedRange}
+use Rattle.record.specs.Reading.{reftimeRange}
+use Rattle.record.specs.Inner.{toldField, upTo, betweenZ, lastReftime}
+use Rattle.record.proofs.Ranges.{phase-bounds, reftime-bounds}
+use Rattle.record.specs.declared.field.Field.{Field}
+use Rattle.record.specs.declared.field.Field.the-variants as F
+
+module _ (range : ℕ → Bool) (s : List ℕ) (at : ℕ) {d : Decoded} (e : told d ≡ numberAt s at) where
+  pub field-no : {r : ℕ} → d ≡ D.Refused r → refused r ≡ fieldAt range s at
+  unfolding fieldAt judgedBy
+  field-no f = ap (λ (x : Decoded). judgedBy range (told x)) (sym f) ∙ ap (judgedBy range) e
+
+  module _ {v k : ℕ} (f : d ≡ D.Value v k) where
+    judged-number : judgedBy range (number v k) ≡ fieldAt range s at
+    unfolding fieldAt
+    judged-number = ap (λ (x : Decoded). judgedBy range (told x)) (sym f) ∙ ap (judgedBy range) e
+
+    pub field-in : range v ≡ true → number v k ≡ fieldAt range s at
+    unfolding judgedBy
+    field-in w = simp w at judged-number
+
+    pub field-out : range v ≡ false → refused 12 ≡ fieldAt range s at
+    unfolding judgedBy
+    field-out w = simp w at judged-number
+
+-- two ranges that agree are one
+judged-same : (p q : ℕ → Bool) → ((n : ℕ) → p n ≡ q n) → (x : Found) → judgedBy p x ≡ judgedBy q x
+unfolding judgedBy
+judged-same p q h (number v k) = rw (h v) refl
+judged-same p q h (refused r) = refl
+
+field-same : (p q : ℕ → Bool) (s : List ℕ) (at : ℕ) → ((n : ℕ) → p n ≡ q n) → fieldAt p s at ≡ fieldAt q s at
+unfolding fieldAt
+field-same p q s at h = judged-same p q h (numberAt s at)
+
+-- the phase, tested by the least and the greatest value
+pub phase-field : (s : List ℕ) (at : ℕ) → fieldAt (mappedRange (betweenZ (negsuc 268435454) (pos 268435455))) s at ≡ fieldAt (mappedRange phaseRange) s at
+phase-field s at = field-same _ _ s at (λ n. phase-bounds (unmapped n))
+
+-- the second of the earlier update, tested by the largest one that the flag allows
+pub reftime-field : (s : List ℕ) (at flag : ℕ) {most : ℕ} → most ≡ lastReftime flag → fieldAt (upTo most) s at ≡ fieldAt (reftimeRange flag) s at
+reftime-field s at flag e = ap (λ (m : ℕ). fieldAt (upTo m) s at) e ∙ field-same _ _ s at (reftime-bounds flag)
+
+-- a field that was read is in its range
+judged-in : (range : ℕ → Bool) (x : Found) {v k : ℕ} → number v k ≡ judgedBy range x → range v ≡ true
+unfolding judgedBy
+judged-in range (number n j) {v} {k} e =
+    ⊎-elim
+    (λ (t : range n ≡ true).
+    let f : number v k ≡ number n j = simp t at e in
+    let g : v ≡ n = cc in
+    ap range g ∙ t)
+    (λ (t : range n ≡ false).
+    let f : number v k ≡ refused 12 = simp t at e in
+    let z : _≡_ {A = ℕ} 0 1 = cc in
+    absurd (omega arith))
+    (either (range n))
+judged-in range (refused r) e = let z : _≡_ {A = ℕ} 0 1 = cc in absurd (omega arith)
+
+pub read-in : (range : ℕ → Bool) (s : List ℕ) (at : ℕ) {d : Field} {v k : ℕ} → toldField d ≡ fieldAt range s at → d ≡ F.Value v k → range v ≡ true
+unfolding fieldAt
+read-in range s at e f = judged-in range (numberAt s at) (ap toldField (sym f) ∙ e)

@@ -1,0 +1,9 @@
+-- `record::restore::refused_with` meets its contract: the fresh clock beside the number.
+use Rattle.record.proofs.restore.refused_with.Statement.{statement}
+use Rattle.record.proofs.restore.refused_with.Tie as tie
+
+returns : tie.Need-returns
+returns c = rw (c .fresh .ensures)
+
+pub refused-with-spec : {M : Type 1} → statement M
+refused-with-spec = tie.close (tie.spec (λ c κs. tt) returns)

@@ -1,0 +1,68 @@
+// One field of a record: a number at a place, and its range.
+ghost use mathlib.Core.Path.{_≡_};
+ghost use Rattle.number.specs.Mapping.{unmapped};
+ghost use Rattle.record.specs.Field.{fieldAt, mappedRange};
+ghost use Rattle.record.specs.Inner.{toldField, upTo, betweenZ};
+ghost use Rattle.record.specs.Layout.{knownVersion};
+use crate::layout::VERSION;
+use number::decode::Decoded;
+
+// What reading a field gives: its number, which is in its range, and the place after it; or the refusal, 10, 11 or 12.
+// A signed field's number is the one that it is mapped to.
+pub(crate) enum Field {
+    Value(u32, usize),
+    Refused(u8),
+}
+
+// The version, which is a record's first number.
+pub(crate) fn version(bytes: &[u8]) -> Field
+    ensures { λ r. ⌜ toldField r ≡ fieldAt knownVersion (now (bytes .entry)) 0 ⌝ }
+{
+    match number::decode::read(bytes, 0) {
+        Decoded::Refused(n) => Field::Refused(n),
+        Decoded::Value { value, next } => {
+            if value == VERSION as u64 {
+                return Field::Value(VERSION, next);
+            }
+            Field::Refused(12)
+        }
+    }
+}
+
+// The field at `at` whose values are 0 to `most`.
+pub(crate) fn plain(bytes: &[u8], at: usize, most: u32) -> Field
+    ensures { λ r. ⌜ toldField r ≡ fieldAt (upTo most) (now (bytes .entry)) at ⌝ }
+{
+    match number::decode::read(bytes, at) {
+        Decoded::Refused(n) => Field::Refused(n),
+        Decoded::Value { value, next } => {
+            if value <= most as u64 {
+                return Field::Value(value as u32, next);
+            }
+            Field::Refused(12)
+        }
+    }
+}
+
+// The mapped field at `at` whose values are `least` to `most`.
+pub(crate) fn signed(bytes: &[u8], at: usize, least: i32, most: i32) -> Field
+    ensures { λ r. ⌜ toldField r ≡ fieldAt (mappedRange (betweenZ least most)) (now (bytes .entry)) at ⌝ }
+{
+    match number::decode::read(bytes, at) {
+        Decoded::Refused(n) => Field::Refused(n),
+        Decoded::Value { value, next } => {
+            let v = number::zigzag::unmap(value);
+            if (least as i64 <= v) & (v <= most as i64) {
+                return Field::Value(value as u32, next);
+            }
+            Field::Refused(12)
+        }
+    }
+}
+
+// The signed number that a field's number is mapped from.
+pub(crate) fn unmapped_of(n: u32) -> i32
+    ensures { λ r. ⌜ r ≡ unmapped n ⌝ }
+{
+    number::zigzag::unmap(n as u64) as i32
+}

@@ -1,0 +1,38 @@
+// What a record holds: the version, and the numbers in their order.
+ghost use mathlib.Core.Path.{_≡_};
+ghost use Rattle.record.specs.Layout.{numbersOf};
+use clock::state::Clock;
+
+// The version that is written, and the only one that is read.
+pub(crate) const VERSION: u32 = 1;
+
+fn wide(x: u8) -> u32
+    ensures { λ r. ⌜ r ≡ x ⌝ }
+{
+    x as u32
+}
+
+// The thirteen numbers of a clock's record.
+pub(crate) fn numbers(c: Clock) -> [u32; 13]
+    ensures { λ r. ⌜ r ≡ numbersOf c ⌝ }
+{
+    let phase = number::zigzag::map(c.phase.0);
+    let offset = number::zigzag::map(c.offset.0);
+    let frequency = number::zigzag::map(c.frequency.0);
+    let adjustment = number::zigzag::map(c.adjustment.0);
+    [
+        VERSION,
+        c.seconds,
+        c.micros.0,
+        phase,
+        offset,
+        frequency,
+        adjustment,
+        wide(c.constant),
+        wide(c.updated),
+        c.reftime,
+        c.maxerror.0,
+        c.esterror.0,
+        wide(c.status),
+    ]
+}

@@ -1,0 +1,30 @@
+// Writing a clock's record.
+ghost use mathlib.Core.Path.{_≡_};
+ghost use Rattle.record.specs.Saving.{savingOf, bufferAfter};
+use crate::layout::numbers;
+use clock::state::Clock;
+use clock::state::in_range;
+
+// The answer of a write: refusal 0 and how many bytes the record has, or refusal 1 or 14 and 0.
+pub struct Saved {
+    pub refusal: u8,
+    pub length: usize,
+}
+
+// Writes the record of c into the buffer's first bytes; the later ones stay. A refused write leaves all of them.
+pub fn write(c: Clock, buf: &mut [u8]) -> Saved
+    ensures { λ r. ⌜ (r ≡ savingOf c (now (buf .entry))) × (now (buf .exit) ≡ bufferAfter c (now (buf .entry))) ⌝ }
+{
+    if !in_range(c) {
+        return Saved {
+            refusal: 1,
+            length: 0,
+        };
+    }
+    let ns = numbers(c);
+    let w = number::encode::write_all(buf, 0, &ns);
+    Saved {
+        refusal: w.refusal,
+        length: w.next,
+    }
+}
