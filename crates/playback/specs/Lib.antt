@@ -1,0 +1,6 @@
+pub mod Ticks
+pub mod Lines
+pub mod Event
+pub mod Run
+pub mod Filling
+pub mod Inner
