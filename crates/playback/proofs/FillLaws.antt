@@ -25,6 +25,12 @@ at-most : (b : Bool) (n : ℕ) → cond b 0 n ≤ n
 at-most true n = omega arith
 at-most false n = omega arith
 
+-- with every step that goes onward less is left
+pub onward-less : (s : List ℕ) (now next : Run) → now .ended ≡ false → Onward s (now .place) next → left s next < left s now
+unfolding left
+onward-less s now next going (inl t) = simp (going, t) (omega arith)
+onward-less s now next going (inr h) = simp going (omega (arith, h .0, h .1, at-most (next .ended) (suc (length s - next .place))))
+
 -- a loop that goes on: the run has not ended, and there is room for one more line
 pub goes-on : (b c : Bool) → (not b && c) ≡ true → (b ≡ false) × (c ≡ true)
 goes-on true c t = absurd (let w : _≡_ {A = ℕ} 0 1 = cc in omega arith)
@@ -80,13 +86,8 @@ module _ (s : List ℕ) (run : Run) (buf : List ℕ) where
           onward = inr (further now (r .run) at going (p .onward) (x .onward));
         }
 
-    less-by : Onward s (now .place) (r .run) → left s (r .run) < left s now
-    unfolding left
-    less-by (inl t) = simp (going, t) (omega arith)
-    less-by (inr h) = simp going (omega (arith, h .0, h .1, at-most (r .run .ended) (suc (length s - r .run .place))))
-
     pub left-less : left s (r .run) < left s now
-    left-less = less-by (x .onward)
+    left-less = onward-less s now (r .run) going (x .onward)
 
   -- the loop ended: the run did, or there is no room for one more line
   pub put-all : {out : List ℕ} {now : Run} {at : ℕ} (last : ℕ) → Put out now at → longestLine ≤ length buf → (not (now .ended) && leb at last) ≡ false
