@@ -1,6 +1,5 @@
 pub mod Decimal
 pub mod Buffers
-pub mod ManyTicks
 pub mod LineLaws
 pub mod Remaining
 pub mod StepLaws

@@ -1,4 +1,3 @@
-pub mod Ticks
 pub mod Lines
 pub mod Event
 pub mod Run

@@ -10,7 +10,6 @@ ghost use Rattle.playback.specs.Inner.{isPrint, RunsEvent, endedAt, Step
 use crate::lines::put_log;
 use crate::lines::put_print;
 use crate::lines::put_refused;
-use crate::ticks::run_ticks;
 use clock::outcome::Outcome;
 use clock::setting::set;
 use clock::state::Clock;
@@ -18,6 +17,7 @@ use clock::state::fresh;
 use history::Entry;
 use history::Event;
 use request::request::adjust;
+use ticks::run_ticks;
 
 // The longest history, in bytes.
 pub const LONGEST: usize = 65536;

@@ -7,7 +7,7 @@ use borrow.Author.Tests.{eq-eqb, ne-eqb}
 use Rattle.clock.specs.Tick.{tickOf}
 use Rattle.clock.specs.declared.state.Clock.{Clock}
 use Rattle.clock.specs.declared.outcome.Outcome.{Outcome}
-use Rattle.playback.specs.Ticks.{ticksOf}
+use Rattle.ticks.specs.Ticks.{ticksOf}
 
 pub ticks-none : (n : ℕ) (c : Clock) → n ≤ 0 → ticksOf n c ≡ record { refusal = 0; clock = c }
 unfolding ticksOf

@@ -1,12 +1,12 @@
--- `playback::ticks::run_ticks` meets its contract. The loop's invariant: what the ticks still to be run make of the clock as it is, all of
+-- `ticks::run_ticks` meets its contract. The loop's invariant: what the ticks still to be run make of the clock as it is, all of
 -- them make of the clock as it was. The measure is the ticks left.
 use mathlib.Core.Path.{_≡_, refl, sym, _∙_}
 use native.Mathlib.Omega.{arith}
 use borrow.Author.Needs.{needs}
-use Rattle.playback.specs.Ticks.{ticksOf}
-use Rattle.playback.proofs.ManyTicks.{ticks-none, ticks-refused, ticks-more}
-use Rattle.playback.proofs.ticks.run_ticks.Statement.{statement}
-use Rattle.playback.proofs.ticks.run_ticks.Tie as tie
+use Rattle.ticks.specs.Ticks.{ticksOf}
+use Rattle.ticks.proofs.ManyTicks.{ticks-none, ticks-refused, ticks-more}
+use Rattle.ticks.proofs.run_ticks.Statement.{statement}
+use Rattle.ticks.proofs.run_ticks.Tie as tie
 
 abbrev Inv-loop : tie.InvT-loop
 Inv-loop n d₀ left₀ d left = ticksOf n d₀ ≡ ticksOf left d

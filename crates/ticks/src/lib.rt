@@ -1,6 +1,6 @@
 // Many ticks in one call.
 ghost use mathlib.Core.Path.{_≡_};
-ghost use Rattle.playback.specs.Ticks.{ticksOf};
+ghost use Rattle.ticks.specs.Ticks.{ticksOf};
 use clock::outcome::Outcome;
 use clock::state::Clock;
 use clock::tick::tick;
