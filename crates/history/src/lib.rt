@@ -2,7 +2,7 @@
 ghost use mathlib.Core.Path.{_≡_};
 ghost use Prim.Native.Nat.{_%_, _<_};
 ghost use Rattle.number.specs.Reading.{told as Number·told};
-ghost use Rattle.history.specs.Event.{told, offsetMicros, askedFrequency, offsetAsked, frequencyAsked, fieldAt, ticksAt, settingAt, requestAt, eventAt};
+ghost use Rattle.history.specs.Event.{told, offsetAsked, frequencyAsked, fieldAt, ticksAt, settingAt, requestAt, eventAt};
 ghost use Rattle.history.specs.Inner.{refusedAs};
 use clock::units::AskedMicros;
 use number::decode::Decoded;

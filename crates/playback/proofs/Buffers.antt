@@ -5,7 +5,7 @@ use Prim.Native.Nat.{ℕ, suc, _+_, _<_, _≤_}
 use native.Mathlib.Numerals.{add-one}
 use native.Mathlib.Omega.{arith}
 use lib.ListN.{length, take, drop, set, getD, length-append, drop-of-length-le}
-use lib.Seq.{sets, sets-eq, length-sets, drop-cons, drop-drop, drop-at, take-at, length-take-le, take-append-seam, drop-append-seam}
+use lib.Seq.{sets, sets-eq, length-sets, drop-cons, drop-drop, drop-at, take-at, length-take-le, drop-append-seam}
 use Rattle.number.proofs.Lists.{sets-append}
 use Rattle.playback.specs.Inner.{Puts}
 

@@ -1,20 +1,19 @@
 -- Steps of a run, one after the other: what has been put so far, and what remains.
 use mathlib.Core.Path.{_≡_, refl, sym, _∙_, ap}
 use mathlib.Core.Bool.{Bool, true, false, not, cond, _&&_}
-use mathlib.Core.List.{List, [], _++_, append-assoc}
+use mathlib.Core.List.{List, append-assoc}
 use mathlib.Core.Logic.{_⊎_, inl, inr, ⊎-elim}
 use Prim.Native.Nat.{ℕ, suc, _+_, _-_, _<_, _≤_}
 use native.Mathlib.Omega.{arith}
-use lib.Dec.{leb, ltb}
+use lib.Dec.{leb}
 use lib.ListN.{length, take, drop}
 use lib.Seq.{drop-drop}
 use borrow.Author.Tests.{lt-ltb, le-ltb, le-leb}
-use Rattle.playback.specs.Run.{Played, before, remaining}
+use Rattle.playback.specs.Run.{before, remaining}
 use Rattle.playback.specs.Filling.{Onward, longestLine, Fills}
-use Rattle.playback.specs.Inner.{Puts, Steps}
+use Rattle.playback.specs.Inner.{Steps}
 use Rattle.playback.specs.declared.run.Run.{Run}
 use Rattle.playback.specs.declared.run.Step.{Step}
-use Rattle.playback.specs.declared.run.Filling.{Filling}
 use Rattle.playback.proofs.Buffers.{puts-take, puts-drop, puts-length}
 
 -- what is left to run: the bytes, and one for the end

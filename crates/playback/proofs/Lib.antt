@@ -4,3 +4,4 @@ pub mod LineLaws
 pub mod Remaining
 pub mod StepLaws
 pub mod FillLaws
+pub mod Examples

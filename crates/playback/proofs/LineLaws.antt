@@ -4,8 +4,7 @@ use mathlib.Core.Bool.{Bool, true, false, not}
 use mathlib.Core.List.{List, [], _∷_, _++_, append-nil, append-assoc}
 use Prim.Native.Nat.{ℕ, _+_, _/_, _<_, _≤_}
 use native.Mathlib.Omega.{arith}
-use lib.Dec.{T, eqb, leb}
-use lib.ListN.{length, drop, length-append, drop-of-length-le}
+use lib.ListN.{length, length-append, drop-of-length-le}
 use borrow.Author.Tests.{eq-eqb, ne-eqb, le-ltb}
 use Rattle.clock.specs.State.{inRange}
 use Rattle.clock.specs.Reading.{readingOf, readingRefusal}
@@ -13,12 +12,12 @@ use Rattle.clock.specs.Refusal.{refuse}
 use Rattle.clock.specs.declared.state.Clock.{Clock}
 use Rattle.clock.specs.declared.outcome.Outcome.{Outcome}
 use Rattle.clock.proofs.Ok.{ok}
-use Rattle.label.specs.Label.{digit, labelOf, isSixty, clockLabel}
+use Rattle.label.specs.Label.{digit, isSixty, clockLabel}
 use Rattle.label.specs.Writing.{writeRefusal, writtenTo}
 use Rattle.label.proofs.RoundTrip.{twenty}
 use Rattle.history.specs.declared.Event.{Event}
 use Rattle.history.specs.declared.Event.the-variants.{Ticks, Setting, Request, Print}
-use Rattle.playback.specs.Lines.{decimal, six, refusedLine, logLine, printLine}
+use Rattle.playback.specs.Lines.{refusedLine, logLine, printLine}
 use Rattle.playback.specs.Event.{outcomeOf, printed, lineOf}
 use Rattle.playback.specs.Inner.{isPrint}
 use Rattle.playback.proofs.Decimal.{decimal-last, length-last, decimal-length}
@@ -62,7 +61,7 @@ accepted false e = absurd (omega (arith, e))
 
 pub print-sound : (c : Clock) (e : Event) → isPrint e ≡ true → outcomeOf c e .refusal ≡ 0 → inRange c ≡ true
 unfolding outcomeOf readingOf readingRefusal
-print-sound c (Ticks n) t z = let q : _≡_ {A = Bool} false true = t in absurd (let w : _≡_ {A = ℕ} 0 1 = cc in omega arith)
+print-sound c (Ticks n) t z = absurd (let w : _≡_ {A = ℕ} 0 1 = cc in omega arith)
 print-sound c (Setting s u) t z = absurd (let w : _≡_ {A = ℕ} 0 1 = cc in omega arith)
 print-sound c (Request r) t z = absurd (let w : _≡_ {A = ℕ} 0 1 = cc in omega arith)
 print-sound c Print t z = accepted (inRange c) z

@@ -1,16 +1,16 @@
 -- A step of a run: one that ends it, and one that goes on after an event.
 use mathlib.Core.Path.{_≡_, refl, sym, _∙_, ap}
 use mathlib.Core.Bool.{true, false}
-use mathlib.Core.List.{List, [], _++_, append-nil}
+use mathlib.Core.List.{List, append-nil}
 use mathlib.Core.Logic.{inl, inr}
-use Prim.Native.Nat.{ℕ, _+_, _<_, _≤_}
+use Prim.Native.Nat.{ℕ, _<_, _≤_}
 use lib.ListN.{length}
 use Rattle.clock.specs.declared.state.Clock.{Clock}
 use Rattle.history.specs.declared.Event.{Event}
 use Rattle.history.specs.Event.{found, eventAt}
 use Rattle.history.proofs.Extent.{Past, event-past}
-use Rattle.playback.specs.Event.{lineOf, outcomeOf}
-use Rattle.playback.specs.Run.{Played, before, longest, remaining}
+use Rattle.playback.specs.Event.{lineOf}
+use Rattle.playback.specs.Run.{before, longest, remaining}
 use Rattle.playback.specs.Filling.{longestLine}
 use Rattle.playback.specs.Inner.{Puts, RunsEvent, endedAt, Steps}
 use Rattle.playback.specs.declared.run.Run.{Run}

@@ -3,7 +3,7 @@ ghost use mathlib.Core.Path.{_≡_};
 ghost use mathlib.Core.Bool.{false};
 ghost use Prim.Native.Nat.{_+_, _≤_};
 ghost use lib.ListN.{length};
-ghost use Rattle.playback.specs.Event.{outcomeOf, lineOf};
+ghost use Rattle.playback.specs.Event.{outcomeOf};
 ghost use Rattle.playback.specs.Run.{startOfRun};
 ghost use Rattle.playback.specs.Filling.{Fills};
 ghost use Rattle.playback.specs.Inner.{isPrint, RunsEvent, endedAt, Steps};

@@ -1,8 +1,7 @@
 -- How many ticks go: one more, the one that is refused, and none.
-use mathlib.Core.Path.{_≡_, refl, _∙_, ap}
+use mathlib.Core.Path.{_≡_, _∙_, ap}
 use Prim.Native.Nat.{ℕ, suc, _-_, _≤_, _<_}
 use native.Mathlib.Omega.{arith}
-use lib.Dec.{eqb}
 use borrow.Author.Tests.{eq-eqb, ne-eqb}
 use Rattle.clock.specs.Tick.{tickOf}
 use Rattle.clock.specs.declared.state.Clock.{Clock}

@@ -1,5 +1,4 @@
 -- `history::field_at` meets its contract.
-use mathlib.Core.Path.{_∙_, sym}
 use borrow.Author.Tests.{eq-eqb, ne-eqb}
 use Rattle.history.specs.Event.{fieldAt}
 use borrow.Author.Needs.{needs}

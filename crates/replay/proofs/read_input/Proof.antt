@@ -1,7 +1,6 @@
 -- `replay::read_input` meets its contract. The loop's invariant: no more was read than the buffer has room for. The measure is the room left.
-use mathlib.Core.Path.{_≡_, refl, sym, _∙_, ap}
+use mathlib.Core.Path.{_≡_}
 use Prim.Native.Nat.{_-_, _≤_}
-use native.Mathlib.Omega.{arith}
 use borrow.Author.Needs.{needs}
 use lib.ListN.{length}
 use Rattle.replay.proofs.read_input.Statement.{statement}

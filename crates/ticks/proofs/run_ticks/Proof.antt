@@ -1,7 +1,6 @@
 -- `ticks::run_ticks` meets its contract. The loop's invariant: what the ticks still to be run make of the clock as it is, all of
 -- them make of the clock as it was. The measure is the ticks left.
 use mathlib.Core.Path.{_≡_, refl, sym, _∙_}
-use native.Mathlib.Omega.{arith}
 use borrow.Author.Needs.{needs}
 use Rattle.ticks.specs.Ticks.{ticksOf}
 use Rattle.ticks.proofs.ManyTicks.{ticks-none, ticks-refused, ticks-more}

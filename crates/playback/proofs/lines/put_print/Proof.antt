@@ -1,5 +1,5 @@
 -- `playback::lines::put_print` meets its contract: the label, and the ten bytes after it.
-use mathlib.Core.Path.{_≡_, refl, sym, _∙_, ap}
+use mathlib.Core.Path.{refl, _∙_}
 use Rattle.playback.proofs.Buffers.{puts-then, puts-as}
 use Rattle.playback.proofs.LineLaws.{label-written, print-parts}
 use borrow.Author.Needs.{needs}

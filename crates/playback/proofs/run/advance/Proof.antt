@@ -1,6 +1,6 @@
 -- `playback::run::advance` meets its contract: a history that is too long, the end of the bytes and undecodable bytes end the run; an event
 -- is run.
-use mathlib.Core.Path.{_≡_, sym, _∙_, ap}
+use mathlib.Core.Path.{sym, _∙_, ap}
 use native.Mathlib.Omega.{arith}
 use Rattle.history.specs.Event.{told}
 use Rattle.playback.proofs.Buffers.{puts-none}

@@ -1,5 +1,5 @@
 -- `playback::run::run_event` meets its contract: the line of a refusal, of a print, or none.
-use mathlib.Core.Path.{_≡_, sym, _∙_, ap}
+use mathlib.Core.Path.{sym, _∙_, ap}
 use native.Mathlib.Omega.{arith}
 use Rattle.clock.specs.declared.outcome.Outcome.{Outcome}
 use Rattle.playback.proofs.Buffers.{puts-none, puts-as}
