@@ -6,6 +6,7 @@ ghost use lib.ListN.{length};
 ghost use Rattle.clock.specs.State.{inRange};
 ghost use Rattle.label.specs.Label.{digit as Label·digit};
 ghost use Rattle.playback.specs.Lines.{decimal, refusedLine, logLine, printLine};
+ghost use Rattle.playback.specs.Filling.{longestLine};
 ghost use Rattle.playback.specs.Inner.{Puts};
 use clock::state::Clock;
 
@@ -45,7 +46,7 @@ fn put_decimal(out: &mut [u8], at: usize, n: u32) -> usize
 
 // `refused N`
 pub(crate) fn put_refused(out: &mut [u8], at: usize, n: u8) -> usize
-    requires { ⌜ at + 30 ≤ length (now out) ⌝ }
+    requires { ⌜ at + longestLine ≤ length (now out) ⌝ }
     ensures { λ r. ⌜ Puts (refusedLine n) (now (out .entry)) at (now (out .exit)) r ⌝ }
 {
     let number = put(out, at, b"refused ");
@@ -55,7 +56,7 @@ pub(crate) fn put_refused(out: &mut [u8], at: usize, n: u8) -> usize
 
 // `log N at P`
 pub(crate) fn put_log(out: &mut [u8], at: usize, n: u8, p: u32) -> usize
-    requires { ⌜ (at + 30 ≤ length (now out)) × (p ≤ 65536) ⌝ }
+    requires { ⌜ (at + longestLine ≤ length (now out)) × (p ≤ 65536) ⌝ }
     ensures { λ r. ⌜ Puts (logLine n p) (now (out .entry)) at (now (out .exit)) r ⌝ }
 {
     let number = put(out, at, b"log ");
@@ -67,7 +68,7 @@ pub(crate) fn put_log(out: &mut [u8], at: usize, n: u8, p: u32) -> usize
 
 // A print: the longest line, of 30 bytes.
 pub(crate) fn put_print(out: &mut [u8], at: usize, c: Clock) -> usize
-    requires { ⌜ (at + 30 ≤ length (now out)) × (inRange c ≡ true) ⌝ }
+    requires { ⌜ (at + longestLine ≤ length (now out)) × (inRange c ≡ true) ⌝ }
     ensures { λ r. ⌜ Puts (printLine c) (now (out .entry)) at (now (out .exit)) r ⌝ }
 {
     let mut label = [0u8; 20];

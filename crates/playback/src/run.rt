@@ -5,7 +5,7 @@ ghost use Prim.Native.Nat.{_+_, _≤_};
 ghost use lib.ListN.{length};
 ghost use Rattle.playback.specs.Event.{outcomeOf};
 ghost use Rattle.playback.specs.Run.{startOfRun};
-ghost use Rattle.playback.specs.Filling.{Fills};
+ghost use Rattle.playback.specs.Filling.{longestLine, Fills};
 ghost use Rattle.playback.specs.Inner.{isPrint, RunsEvent, endedAt, Steps};
 use crate::lines::put_log;
 use crate::lines::put_print;
@@ -80,7 +80,7 @@ struct Done {
 }
 
 fn run_event(c: Clock, e: Event, out: &mut [u8], at: usize) -> Done
-    requires { ⌜ at + 30 ≤ length (now out) ⌝ }
+    requires { ⌜ at + longestLine ≤ length (now out) ⌝ }
     ensures { λ r. ⌜ RunsEvent c e (now (out .entry)) at (now (out .exit)) r ⌝ }
 {
     let o = outcome_of(c, e);
@@ -125,14 +125,14 @@ fn ended_at(c: Clock, place: usize, at: usize) -> Step
 
 // Runs what stands at the run's place.
 fn advance(bytes: &[u8], run: Run, out: &mut [u8], at: usize) -> Step
-    requires { ⌜ (at + 30 ≤ length (now out)) × (run .ended ≡ false) ⌝ }
+    requires { ⌜ (at + longestLine ≤ length (now out)) × (run .ended ≡ false) ⌝ }
     ensures { λ r. ⌜ Steps (now (bytes .entry)) run (now (out .entry)) at (now (out .exit)) r ⌝ }
 {
     let c = run.clock;
     let place = run.place;
     let n = bytes.len();
     if LONGEST < n {
-        let next = put_log(out, at, 13, 65536);
+        let next = put_log(out, at, 13, LONGEST as u32);
         return ended_at(c, place, next);
     }
     if n <= place {

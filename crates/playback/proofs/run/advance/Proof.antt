@@ -11,6 +11,9 @@ use borrow.Author.Needs.{needs}
 use Rattle.playback.proofs.run.advance.Statement.{statement}
 use Rattle.playback.proofs.run.advance.Tie as tie
 
+cast-put-log : tie.Need-cast-put-log
+cast-put-log c = search needs
+
 put-log-requires : tie.Need-put-log-requires
 put-log-requires c κs = search needs
 
@@ -41,8 +44,8 @@ read-requires c κs = search needs
 enum-known-entry : tie.Need-enum-known-entry
 enum-known-entry c = search needs
 
-cast-put-log : tie.Need-cast-put-log
-cast-put-log c = search needs
+cast-put-log-2 : tie.Need-cast-put-log-2
+cast-put-log-2 c = search needs
 
 put-log-requires-2 : tie.Need-put-log-requires-2
 put-log-requires-2 c κs = search needs
@@ -81,6 +84,7 @@ pub advance-spec : {M : Type 1} → statement M
 advance-spec =
     tie.close
     (tie.spec
+    cast-put-log
     put-log-requires
     ended-at-requires
     same-length
@@ -89,7 +93,7 @@ advance-spec =
     returns-2
     read-requires
     enum-known-entry
-    cast-put-log
+    cast-put-log-2
     put-log-requires-2
     ended-at-requires-3
     enum-known-entry-2
