@@ -21,11 +21,11 @@ six n = digit (n / 100000) ∷ digit (n / 10000) ∷ digit (n / 1000) ∷ digit 
 
 -- "the line `refused N`": r e f u s e d
 unfoldable pub refusedLine : ℕ → List ℕ
-refusedLine n = (114 ∷ 101 ∷ 102 ∷ 117 ∷ 115 ∷ 101 ∷ 100 ∷ 32 ∷ []) ++ decimal n ++ (10 ∷ [])
+refusedLine n = (114 ∷ 101 ∷ 102 ∷ 117 ∷ 115 ∷ 101 ∷ 100 ∷ 32 ∷ decimal n) ++ (10 ∷ [])
 
 -- "the line `log N at P`": l o g, a t
 unfoldable pub logLine : ℕ → ℕ → List ℕ
-logLine n p = (108 ∷ 111 ∷ 103 ∷ 32 ∷ []) ++ decimal n ++ (32 ∷ 97 ∷ 116 ∷ 32 ∷ []) ++ decimal p ++ (10 ∷ [])
+logLine n p = (108 ∷ 111 ∷ 103 ∷ 32 ∷ decimal n) ++ (32 ∷ 97 ∷ 116 ∷ 32 ∷ decimal p) ++ (10 ∷ [])
 
 -- "A print is label, space, six-digit microseconds, space, status, newline."
 unfoldable pub printLine : Clock → List ℕ

@@ -1,6 +1,7 @@
 // The lines that a run writes, each into a lent buffer that has room for it.
 ghost use mathlib.Core.Path.{_≡_};
 ghost use mathlib.Core.Bool.{true};
+ghost use mathlib.Core.List.{_++_};
 ghost use Prim.Native.Nat.{_+_, _≤_, _<_};
 ghost use lib.ListN.{length};
 ghost use Rattle.clock.specs.State.{inRange};
@@ -44,13 +45,21 @@ fn put_decimal(out: &mut [u8], at: usize, n: u32) -> usize
     p + 1
 }
 
+// Writes a text and then a number.
+fn put_number(out: &mut [u8], at: usize, text: &[u8], n: u32) -> usize
+    requires { ⌜ at + (length (now text) + length (decimal n)) ≤ length (now out) ⌝ }
+    ensures { λ r. ⌜ Puts (now (text .entry) ++ decimal n) (now (out .entry)) at (now (out .exit)) r ⌝ }
+{
+    let p = put(out, at, text);
+    put_decimal(out, p, n)
+}
+
 // `refused N`
 pub(crate) fn put_refused(out: &mut [u8], at: usize, n: u8) -> usize
     requires { ⌜ at + longestLine ≤ length (now out) ⌝ }
     ensures { λ r. ⌜ Puts (refusedLine n) (now (out .entry)) at (now (out .exit)) r ⌝ }
 {
-    let number = put(out, at, b"refused ");
-    let end = put_decimal(out, number, n as u32);
+    let end = put_number(out, at, b"refused ", n as u32);
     put(out, end, b"\n")
 }
 
@@ -59,10 +68,8 @@ pub(crate) fn put_log(out: &mut [u8], at: usize, n: u8, p: u32) -> usize
     requires { ⌜ (at + longestLine ≤ length (now out)) × (p ≤ 65536) ⌝ }
     ensures { λ r. ⌜ Puts (logLine n p) (now (out .entry)) at (now (out .exit)) r ⌝ }
 {
-    let number = put(out, at, b"log ");
-    let word = put_decimal(out, number, n as u32);
-    let place = put(out, word, b" at ");
-    let end = put_decimal(out, place, p);
+    let place = put_number(out, at, b"log ", n as u32);
+    let end = put_number(out, place, b" at ", p);
     put(out, end, b"\n")
 }
 

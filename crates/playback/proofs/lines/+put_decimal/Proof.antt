@@ -50,7 +50,7 @@ put-decimal-add-result : (t : ℕ) → put-decimal-lts.Need-add-result (
   put-decimal-below t,
   put-decimal.Post,
 ) (put-decimal-at t) put-decimal.Post
-put-decimal-add-result t c = omega (arith, length-last (c .before .before .before .args .n) (c .before .if1 .taken), c .before .before .before .pre .1)
+put-decimal-add-result t c = omega (arith, put-decimal-slice-write-out t c)
 
 put-decimal-same-length : (t : ℕ) → put-decimal-lts.Need-same-length (
   digit-reads.Asked,
@@ -105,10 +105,7 @@ put-decimal-add-result-2 : (t : ℕ) → put-decimal-lts.Need-add-result-2 (
   put-decimal-below t,
   put-decimal.Post,
 ) (put-decimal-at t) put-decimal.Post
-put-decimal-add-result-2 t c =
-    let s = c .before .before .before .before .before .before .before in
-    let e = c .before .before .before .put-decimal .ensures in
-    omega (arith, e .place, puts-length e, length-more (s .args .n) (c .before .before .before .before .before .if1 .left), s .pre .1)
+put-decimal-add-result-2 t c = omega (arith, put-decimal-slice-write-out-2 t c, puts-length (c .before .before .before .put-decimal .ensures))
 
 put-decimal-same-length-2 : (t : ℕ) → put-decimal-lts.Need-same-length-2 (
   digit-reads.Asked,

@@ -7,43 +7,37 @@ use borrow.Author.Needs.{needs}
 use Rattle.playback.proofs.lines.put_refused.Statement.{statement}
 use Rattle.playback.proofs.lines.put_refused.Tie as tie
 
+slice-aggregate-put-number : tie.Need-slice-aggregate-put-number
+slice-aggregate-put-number c = search needs
+
+put-number-requires : tie.Need-put-number-requires
+put-number-requires c κs =
+    let s = c .before .before .before in
+    omega (arith, s .pre, decimal-length 2 (s .args .n) (omega arith))
+
 slice-aggregate-put : tie.Need-slice-aggregate-put
 slice-aggregate-put c = search needs
 
 put-requires : tie.Need-put-requires
-put-requires c κs = search needs
-
-put-decimal-requires : tie.Need-put-decimal-requires
-put-decimal-requires c κs =
-    let s = c .before .before .before .before .before .before .before in
-    let p = c .before .before .before .put .ensures in
+put-requires c κs =
+    let s = c .before .before .before .before .before .before .before .before in
+    let p = c .before .before .before .before .put-number .ensures in
     omega (arith, s .pre, p .place, puts-length p, decimal-length 2 (s .args .n) (omega arith))
-
-slice-aggregate-put-2 : tie.Need-slice-aggregate-put-2
-slice-aggregate-put-2 c = search needs
-
-put-requires-2 : tie.Need-put-requires-2
-put-requires-2 c κs =
-    let s = c .before .before .before .before .before .before .before .before .before .before .before .before in
-    let p = c .before .before .before .before .before .before .before .before .put .ensures in
-    let q = c .before .before .before .before .put-decimal .ensures in
-    omega (arith, s .pre, p .place, puts-length p, q .place, puts-length q, decimal-length 2 (s .args .n) (omega arith))
 
 same-length : tie.Need-same-length
 same-length c = search needs
 
 returns : tie.Need-returns
 unfolding refusedLine
-returns c = puts-then (puts-then (c .before .before .before .before .before .before .before .before .before .before .before .put .ensures) (c .before .before .before .before .before .before .before .put-decimal .ensures)) (c .before .before .put2 .ensures)
+returns c = puts-then (c .before .before .before .before .before .before .before .put-number .ensures) (c .before .before .put .ensures)
 
 pub put-refused-spec : {M : Type 1} → statement M
 put-refused-spec =
     tie.close
     (tie.spec
+    slice-aggregate-put-number
+    put-number-requires
     slice-aggregate-put
     put-requires
-    put-decimal-requires
-    slice-aggregate-put-2
-    put-requires-2
     same-length
     returns)
