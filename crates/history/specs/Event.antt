@@ -1,0 +1,100 @@
+-- The events of a history, at a place of any bytes. Document 01, "Replay program": "a history in the same number form .. `0 n` ..; `1 s u`
+-- setting; `2 mode` and the selected fields in order of mode bit, offset and frequency mapped ..; `3` print".
+use mathlib.Core.Bool.{cond}
+use mathlib.Core.List.{List}
+use Prim.Native.Nat.{ℕ, _%_}
+use lib.Dec.{eqb}
+use lib.IntN.{ℤ}
+use Rattle.clock.specs.declared.units.AskedMicros.{AskedMicros}
+use Rattle.number.specs.Mapping.{unmapped}
+use Rattle.number.specs.Reading.{Found as Number, number, numberAt}
+use Rattle.number.specs.Reading.{refused as noNumber}
+use Rattle.request.specs.Request.{bitSet}
+use Rattle.request.specs.declared.units.OffsetMicros.{OffsetMicros}
+use Rattle.request.specs.declared.units.AskedFrequency.{AskedFrequency}
+use Rattle.history.specs.declared.Event.{Event}
+use Rattle.history.specs.declared.Event.the-variants.{Ticks, Setting, Request, Print}
+use Rattle.history.specs.declared.Entry.{Entry}
+use Rattle.history.specs.declared.Entry.the-variants as E
+
+-- What stands at a place: an event, with the place after it; or none, with its number in document 01's table of refusals.
+pub data Found : Type 0 where
+  found : (event : Event) (next : ℕ) → Found
+  refused : (refusal : ℕ) → Found
+
+-- what each case of the reader's answer says
+abbrev pub told : Entry → Found
+told (E.Whole event next) = found event next
+told (E.Refused refusal) = refused refusal
+
+-- a number that was read goes on with its value and the place after it; its refusal, 10 or 11, is that of the event
+unfoldable pub then : Number → (ℕ → ℕ → Found) → Found
+then (number value next) go = go value next
+then (noNumber refusal) go = refused refusal
+
+abbrev pub askedMicros : ℕ → AskedMicros
+askedMicros n = record { 0 = n }
+
+abbrev pub offsetMicros : ℤ → OffsetMicros
+offsetMicros z = record { 0 = z }
+
+abbrev pub askedFrequency : ℤ → AskedFrequency
+askedFrequency z = record { 0 = z }
+
+-- "offset and frequency mapped" (us, frequency units)
+abbrev pub offsetAsked : ℕ → OffsetMicros
+offsetAsked n = offsetMicros (unmapped n)
+
+abbrev pub frequencyAsked : ℕ → AskedFrequency
+frequencyAsked n = askedFrequency (unmapped n)
+
+-- "`0 n` up to n single ticks"
+unfoldable pub ticksAt : List ℕ → ℕ → Found
+ticksAt s at = then (numberAt s at) (λ n next. found (Ticks n) next)
+
+-- "`1 s u` setting" (s, us)
+unfoldable pub settingAt : List ℕ → ℕ → Found
+settingAt s at =
+    then (numberAt s at) (λ seconds n0.
+    then (numberAt s n0) (λ micros next.
+    found (Setting seconds (askedMicros micros)) next))
+
+-- the field that a bit of the mode selects; a field that is not selected has no bytes and is 0
+unfoldable pub fieldAt : ℕ → ℕ → List ℕ → ℕ → Number
+fieldAt mode bit s at = cond (bitSet mode bit) (numberAt s at) (number 0 at)
+
+-- "the selected fields in order of mode bit", for the bits of a mode: 1 offset, 2 frequency, 4 and 8 the errors, 16 status, 32 time constant
+abbrev pub fieldsAt : ℕ → ℕ → List ℕ → ℕ → Found
+fieldsAt mode bits s n0 =
+    then (fieldAt bits 1 s n0) (λ offset n1.
+    then (fieldAt bits 2 s n1) (λ frequency n2.
+    then (fieldAt bits 4 s n2) (λ maxerror n3.
+    then (fieldAt bits 8 s n3) (λ esterror n4.
+    then (fieldAt bits 16 s n4) (λ status n5.
+    then (fieldAt bits 32 s n5) (λ constant next.
+    found (Request (record {
+      mode = mode;
+      offset = offsetAsked offset;
+      frequency = frequencyAsked frequency;
+      maxerror = askedMicros maxerror;
+      esterror = askedMicros esterror;
+      status = status;
+      constant = constant;
+    })) next))))))
+
+-- "`2 mode` and the selected fields .. (a mode above 63 brings the fields of mode mod 64 ..)": the request keeps the mode as it was given
+unfoldable pub requestAt : List ℕ → ℕ → Found
+requestAt s at = then (numberAt s at) (λ mode n0. fieldsAt mode (mode % 64) s n0)
+
+-- the arguments that an event's code brings; 12 "unknown .. event code"
+unfoldable pub argumentsAt : ℕ → List ℕ → ℕ → Found
+argumentsAt code s at =
+    cond (eqb code 0) (ticksAt s at)
+    (cond (eqb code 1) (settingAt s at)
+    (cond (eqb code 2) (requestAt s at)
+    (cond (eqb code 3) (found Print at)
+    (refused 12))))
+
+-- the event at place `at` of s; where s ends before the event does, 10 "bytes end inside a record or event"
+unfoldable pub eventAt : List ℕ → ℕ → Found
+eventAt s at = then (numberAt s at) (λ code next. argumentsAt code s next)

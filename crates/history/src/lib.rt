@@ -1,0 +1,181 @@
+// Histories: events in the number form of saved records, one after the other. `read` takes the event at a place of any bytes.
+ghost use mathlib.Core.Path.{_≡_};
+ghost use Prim.Native.Nat.{_%_, _<_};
+ghost use Rattle.number.specs.Reading.{told as Number·told};
+ghost use Rattle.history.specs.Event.{told, offsetAsked, frequencyAsked, fieldAt, ticksAt, settingAt, requestAt, eventAt};
+ghost use Rattle.history.specs.Inner.{refusedAs};
+use clock::units::AskedMicros;
+use number::decode::Decoded;
+use number::zigzag::unmap;
+use request::request::ADJ_CONSTANT;
+use request::request::ADJ_ESTERROR;
+use request::request::ADJ_FREQUENCY;
+use request::request::ADJ_MAXERROR;
+use request::request::ADJ_OFFSET;
+use request::request::ADJ_STATUS;
+use request::request::Request;
+use request::units::AskedFrequency;
+use request::units::OffsetMicros;
+
+// An event of a history.
+pub enum Event {
+    // so many single ticks, up to the first refusal
+    Ticks(u64),
+    // the seconds and the microseconds to set
+    Setting(u64, AskedMicros),
+    // the fields that the mode does not select are 0
+    Request(Request),
+    Print,
+}
+
+// What stands at a place: an event, with the place after it; or the refusal, 10, 11 or 12.
+pub enum Entry {
+    Whole { event: Event, next: usize },
+    Refused(u8),
+}
+
+// The refusal of a number ends the reading of its event.
+fn refusal_of(d: Decoded) -> Entry
+    ensures { λ r. ⌜ told r ≡ refusedAs d ⌝ }
+{
+    match d {
+        Decoded::Refused(n) => Entry::Refused(n),
+        Decoded::Value { value: _, next: _ } => Entry::Refused(0),
+    }
+}
+
+// The arguments of each event, from the place after its code on.
+fn ticks_at(bytes: &[u8], at: usize) -> Entry
+    ensures { λ r. ⌜ told r ≡ ticksAt (now (bytes .entry)) at ⌝ }
+{
+    let d0 = number::decode::read(bytes, at);
+    let Decoded::Value { value: count, next } = d0 else {
+        return refusal_of(d0);
+    };
+    Entry::Whole {
+        event: Event::Ticks(count),
+        next: next,
+    }
+}
+
+fn setting_at(bytes: &[u8], at: usize) -> Entry
+    ensures { λ r. ⌜ told r ≡ settingAt (now (bytes .entry)) at ⌝ }
+{
+    let d0 = number::decode::read(bytes, at);
+    let Decoded::Value { value, next } = d0 else {
+        return refusal_of(d0);
+    };
+    let seconds = value;
+    let d1 = number::decode::read(bytes, next);
+    let Decoded::Value { value, next } = d1 else {
+        return refusal_of(d1);
+    };
+    let micros = AskedMicros(value);
+    Entry::Whole {
+        event: Event::Setting(seconds, micros),
+        next: next,
+    }
+}
+
+// A mode above 63 brings the fields of mode mod 64, before the request is refused for it.
+fn field_bits(mode: u64) -> u64
+    ensures { λ r. ⌜ r ≡ mode % 64 ⌝ }
+{
+    mode % 64
+}
+
+// The field that a bit of the mode selects; else 0, of no bytes.
+fn field_at(bytes: &[u8], at: usize, mode: u64, bit: u64) -> Decoded
+    requires { ⌜ 0 < bit ⌝ }
+    ensures { λ r. ⌜ Number·told r ≡ fieldAt mode bit (now (bytes .entry)) at ⌝ }
+{
+    if mode / bit % 2 == 1 {
+        return number::decode::read(bytes, at);
+    }
+    Decoded::Value { value: 0, next: at }
+}
+
+fn offset_of(n: u64) -> OffsetMicros
+    ensures { λ r. ⌜ r ≡ offsetAsked n ⌝ }
+{
+    OffsetMicros(unmap(n))
+}
+
+fn frequency_of(n: u64) -> AskedFrequency
+    ensures { λ r. ⌜ r ≡ frequencyAsked n ⌝ }
+{
+    AskedFrequency(unmap(n))
+}
+
+fn request_at(bytes: &[u8], at: usize) -> Entry
+    ensures { λ r. ⌜ told r ≡ requestAt (now (bytes .entry)) at ⌝ }
+{
+    let d0 = number::decode::read(bytes, at);
+    let Decoded::Value { value: mode, next } = d0 else {
+        return refusal_of(d0);
+    };
+    let bits = field_bits(mode);
+    let d1 = field_at(bytes, next, bits, ADJ_OFFSET);
+    let Decoded::Value { value, next } = d1 else {
+        return refusal_of(d1);
+    };
+    let offset = offset_of(value);
+    let d2 = field_at(bytes, next, bits, ADJ_FREQUENCY);
+    let Decoded::Value { value, next } = d2 else {
+        return refusal_of(d2);
+    };
+    let frequency = frequency_of(value);
+    let d3 = field_at(bytes, next, bits, ADJ_MAXERROR);
+    let Decoded::Value { value, next } = d3 else {
+        return refusal_of(d3);
+    };
+    let maxerror = AskedMicros(value);
+    let d4 = field_at(bytes, next, bits, ADJ_ESTERROR);
+    let Decoded::Value { value, next } = d4 else {
+        return refusal_of(d4);
+    };
+    let esterror = AskedMicros(value);
+    let d5 = field_at(bytes, next, bits, ADJ_STATUS);
+    let Decoded::Value { value, next } = d5 else {
+        return refusal_of(d5);
+    };
+    let status = value;
+    let d6 = field_at(bytes, next, bits, ADJ_CONSTANT);
+    let Decoded::Value { value, next } = d6 else {
+        return refusal_of(d6);
+    };
+    let constant = value;
+    let request = Request {
+        mode: mode,
+        offset: offset,
+        frequency: frequency,
+        maxerror: maxerror,
+        esterror: esterror,
+        status: status,
+        constant: constant,
+    };
+    Entry::Whole {
+        event: Event::Request(request),
+        next: next,
+    }
+}
+
+// The event that starts at `at`.
+pub fn read(bytes: &[u8], at: usize) -> Entry
+    ensures { λ r. ⌜ told r ≡ eventAt (now (bytes .entry)) at ⌝ }
+{
+    let d = number::decode::read(bytes, at);
+    let Decoded::Value { value: code, next } = d else {
+        return refusal_of(d);
+    };
+    match code {
+        0 => ticks_at(bytes, next),
+        1 => setting_at(bytes, next),
+        2 => request_at(bytes, next),
+        3 => Entry::Whole {
+            event: Event::Print,
+            next: next,
+        },
+        _ => Entry::Refused(12),
+    }
+}

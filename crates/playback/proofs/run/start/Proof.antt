@@ -1,0 +1,13 @@
+-- A run starts at the first byte, on a fresh clock.
+use borrow.Author.Needs.{needs}
+use Rattle.playback.proofs.run.start.Statement.{statement}
+use Rattle.playback.proofs.run.start.Tie as tie
+
+fresh-requires : tie.Need-fresh-requires
+fresh-requires c κs = search needs
+
+returns : tie.Need-returns
+returns c = rw (c .fresh .ensures)
+
+pub start-spec : {M : Type 1} → statement M
+start-spec = tie.close (tie.spec fresh-requires returns)

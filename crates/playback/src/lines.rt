@@ -1,0 +1,98 @@
+// The lines that a run writes, each into a lent buffer that has room for it.
+ghost use mathlib.Core.Path.{_≡_};
+ghost use mathlib.Core.Bool.{true};
+ghost use mathlib.Core.List.{_++_};
+ghost use Prim.Native.Nat.{_+_, _≤_, _<_};
+ghost use lib.ListN.{length};
+ghost use Rattle.clock.specs.State.{inRange};
+ghost use Rattle.label.specs.Label.{digit as Label·digit};
+ghost use Rattle.playback.specs.Lines.{decimal, refusedLine, logLine, printLine};
+ghost use Rattle.playback.specs.Filling.{longestLine};
+ghost use Rattle.playback.specs.Inner.{Puts};
+use clock::state::Clock;
+
+// Writes a text from `at` on, and gives the place after it.
+fn put(out: &mut [u8], at: usize, text: &[u8]) -> usize
+    requires { ⌜ at + length (now text) ≤ length (now out) ⌝ }
+    ensures { λ r. ⌜ Puts (now (text .entry)) (now (out .entry)) at (now (out .exit)) r ⌝ }
+{
+    let mut i = 0;
+    while i < text.len() {
+        out[at + i] = text[i];
+        i += 1;
+    }
+    at + i
+}
+
+// The last decimal digit of n, in ASCII.
+fn digit(n: u32) -> u8
+    ensures { λ r. ⌜ r ≡ Label·digit n ⌝ }
+{
+    (48 + n % 10) as u8
+}
+
+// Writes n in decimal.
+fn put_decimal(out: &mut [u8], at: usize, n: u32) -> usize
+    requires { ⌜ at + length (decimal n) ≤ length (now out) ⌝ }
+    ensures { λ r. ⌜ Puts (decimal n) (now (out .entry)) at (now (out .exit)) r ⌝ }
+{
+    if n < 10 {
+        out[at] = digit(n);
+        return at + 1;
+    }
+    let p = put_decimal(out, at, n / 10);
+    out[p] = digit(n);
+    p + 1
+}
+
+// Writes a text and then a number.
+fn put_number(out: &mut [u8], at: usize, text: &[u8], n: u32) -> usize
+    requires { ⌜ at + (length (now text) + length (decimal n)) ≤ length (now out) ⌝ }
+    ensures { λ r. ⌜ Puts (now (text .entry) ++ decimal n) (now (out .entry)) at (now (out .exit)) r ⌝ }
+{
+    let p = put(out, at, text);
+    put_decimal(out, p, n)
+}
+
+// `refused N`
+pub(crate) fn put_refused(out: &mut [u8], at: usize, n: u8) -> usize
+    requires { ⌜ at + longestLine ≤ length (now out) ⌝ }
+    ensures { λ r. ⌜ Puts (refusedLine n) (now (out .entry)) at (now (out .exit)) r ⌝ }
+{
+    let end = put_number(out, at, b"refused ", n as u32);
+    put(out, end, b"\n")
+}
+
+// `log N at P`
+pub(crate) fn put_log(out: &mut [u8], at: usize, n: u8, p: u32) -> usize
+    requires { ⌜ (at + longestLine ≤ length (now out)) × (p ≤ 65536) ⌝ }
+    ensures { λ r. ⌜ Puts (logLine n p) (now (out .entry)) at (now (out .exit)) r ⌝ }
+{
+    let place = put_number(out, at, b"log ", n as u32);
+    let end = put_number(out, place, b" at ", p);
+    put(out, end, b"\n")
+}
+
+// A print: the longest line, of 30 bytes.
+pub(crate) fn put_print(out: &mut [u8], at: usize, c: Clock) -> usize
+    requires { ⌜ (at + longestLine ≤ length (now out)) × (inRange c ≡ true) ⌝ }
+    ensures { λ r. ⌜ Puts (printLine c) (now (out .entry)) at (now (out .exit)) r ⌝ }
+{
+    let mut label = [0u8; 20];
+    label::write(c, &mut label);
+    let us = c.micros.0;
+    let rest = [
+        b' ',
+        digit(us / 100000),
+        digit(us / 10000),
+        digit(us / 1000),
+        digit(us / 100),
+        digit(us / 10),
+        digit(us),
+        b' ',
+        digit(c.status as u32),
+        b'\n',
+    ];
+    let p = put(out, at, &label);
+    put(out, p, &rest)
+}

@@ -1,0 +1,197 @@
+// A run over a history, from a fresh clock, in calls that each fill a lent buffer with whole lines.
+ghost use mathlib.Core.Path.{_≡_};
+ghost use mathlib.Core.Bool.{false};
+ghost use Prim.Native.Nat.{_+_, _≤_};
+ghost use lib.ListN.{length};
+ghost use Rattle.playback.specs.Event.{outcomeOf};
+ghost use Rattle.playback.specs.Run.{startOfRun};
+ghost use Rattle.playback.specs.Filling.{longestLine, Fills};
+ghost use Rattle.playback.specs.Inner.{isPrint, RunsEvent, endedAt, Steps};
+use crate::lines::put_log;
+use crate::lines::put_print;
+use crate::lines::put_refused;
+use clock::outcome::Outcome;
+use clock::setting::set;
+use clock::state::Clock;
+use clock::state::fresh;
+use history::Entry;
+use history::Event;
+use request::request::adjust;
+use ticks::run_ticks;
+
+// The longest history, in bytes.
+pub const LONGEST: usize = 65536;
+
+// The longest line, in bytes: what a lent buffer must have room for.
+pub const LINE: usize = 30;
+
+// Where a run stands: its clock, the place of the next event, and whether it has ended.
+pub struct Run {
+    pub clock: Clock,
+    pub place: usize,
+    pub ended: bool,
+}
+
+// A run before its first event.
+pub fn start() -> Run
+    ensures { λ r. ⌜ r ≡ startOfRun ⌝ }
+{
+    let clock = fresh();
+    Run {
+        clock: clock,
+        place: 0,
+        ended: false,
+    }
+}
+
+// An event on a clock.
+fn outcome_of(c: Clock, e: Event) -> Outcome
+    ensures { λ r. ⌜ r ≡ outcomeOf c e ⌝ }
+{
+    match e {
+        Event::Ticks(n) => run_ticks(c, n),
+        Event::Setting(seconds, micros) => set(c, seconds, micros),
+        Event::Request(r) => adjust(c, r),
+        Event::Print => {
+            let told = clock::reading::read(c);
+            Outcome {
+                refusal: told.refusal,
+                clock: c,
+            }
+        }
+    }
+}
+
+fn is_print(e: Event) -> bool
+    ensures { λ r. ⌜ r ≡ isPrint e ⌝ }
+{
+    match e {
+        Event::Ticks(_) => false,
+        Event::Setting(_, _) => false,
+        Event::Request(_) => false,
+        Event::Print => true,
+    }
+}
+
+// The clock after an event, and the place after its line in the lent buffer.
+struct Done {
+    clock: Clock,
+    at: usize,
+}
+
+fn run_event(c: Clock, e: Event, out: &mut [u8], at: usize) -> Done
+    requires { ⌜ at + longestLine ≤ length (now out) ⌝ }
+    ensures { λ r. ⌜ RunsEvent c e (now (out .entry)) at (now (out .exit)) r ⌝ }
+{
+    let o = outcome_of(c, e);
+    let clock = o.clock;
+    let refusal = o.refusal;
+    if refusal != 0 {
+        let next = put_refused(out, at, refusal);
+        return Done {
+            clock: clock,
+            at: next,
+        };
+    }
+    if is_print(e) {
+        let next = put_print(out, at, c);
+        return Done {
+            clock: clock,
+            at: next,
+        };
+    }
+    Done {
+        clock: clock,
+        at: at,
+    }
+}
+
+// The run after a step, and the place after what the step wrote.
+struct Step {
+    run: Run,
+    at: usize,
+}
+
+fn ended_at(c: Clock, place: usize, at: usize) -> Step
+    ensures { λ r. ⌜ r ≡ endedAt c place at ⌝ }
+{
+    let run = Run {
+        clock: c,
+        place: place,
+        ended: true,
+    };
+    Step { run: run, at: at }
+}
+
+// Runs what stands at the run's place.
+fn advance(bytes: &[u8], run: Run, out: &mut [u8], at: usize) -> Step
+    requires { ⌜ (at + longestLine ≤ length (now out)) × (run .ended ≡ false) ⌝ }
+    ensures { λ r. ⌜ Steps (now (bytes .entry)) run (now (out .entry)) at (now (out .exit)) r ⌝ }
+{
+    let c = run.clock;
+    let place = run.place;
+    let n = bytes.len();
+    if LONGEST < n {
+        let next = put_log(out, at, 13, LONGEST as u32);
+        return ended_at(c, place, next);
+    }
+    if n <= place {
+        return ended_at(c, place, at);
+    }
+    let entry = history::read(bytes, place);
+    match entry {
+        Entry::Refused(refusal) => {
+            let next = put_log(out, at, refusal, place as u32);
+            ended_at(c, place, next)
+        }
+        Entry::Whole { event, next } => {
+            let done = run_event(c, event, out, at);
+            let clock = done.clock;
+            let run = Run {
+                clock: clock,
+                place: next,
+                ended: false,
+            };
+            Step {
+                run: run,
+                at: done.at,
+            }
+        }
+    }
+}
+
+// The answer of `fill`: refusal 0, where the run stands, and how many bytes of the buffer were written; or refusal 14 for a
+// buffer that has no room for a line, with the run as it was and no bytes.
+pub struct Filling {
+    pub refusal: u8,
+    pub run: Run,
+    pub length: usize,
+}
+
+// Goes on with a run until it has ended or the buffer has no room for one more line. Later bytes of the buffer stay.
+pub fn fill(bytes: &[u8], run: Run, out: &mut [u8]) -> Filling
+    ensures { λ r. ⌜ Fills (now (bytes .entry)) run (now (out .entry)) (now (out .exit)) r ⌝ }
+{
+    let room = out.len();
+    if room < LINE {
+        return Filling {
+            refusal: 14,
+            run: run,
+            length: 0,
+        };
+    }
+    let last = room - LINE;
+    let mut now = run;
+    let mut at = 0;
+    while !now.ended & (at <= last) {
+        let s = advance(bytes, now, out, at);
+        let next = s.run;
+        now = next;
+        at = s.at;
+    }
+    Filling {
+        refusal: 0,
+        run: now,
+        length: at,
+    }
+}
