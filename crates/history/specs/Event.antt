@@ -10,7 +10,7 @@ use Rattle.number.specs.Mapping.{unmapped}
 use Rattle.number.specs.Reading.{Found as Number, number, numberAt}
 use Rattle.number.specs.Reading.{refused as noNumber}
 use Rattle.request.specs.Request.{bitSet}
-use Rattle.request.specs.declared.units.OffsetMicros.{OffsetMicros}
+use Rattle.request.specs.declared.units.AskedOffset.{AskedOffset}
 use Rattle.request.specs.declared.units.AskedFrequency.{AskedFrequency}
 use Rattle.history.specs.declared.Event.{Event}
 use Rattle.history.specs.declared.Event.the-variants.{Ticks, Setting, Request, Print}
@@ -35,14 +35,14 @@ then (noNumber refusal) go = refused refusal
 abbrev pub askedMicros : ℕ → AskedMicros
 askedMicros n = record { 0 = n }
 
-abbrev pub offsetMicros : ℤ → OffsetMicros
+abbrev pub offsetMicros : ℤ → AskedOffset
 offsetMicros z = record { 0 = z }
 
 abbrev pub askedFrequency : ℤ → AskedFrequency
 askedFrequency z = record { 0 = z }
 
 -- "offset and frequency mapped" (us, frequency units)
-abbrev pub offsetAsked : ℕ → OffsetMicros
+abbrev pub offsetAsked : ℕ → AskedOffset
 offsetAsked n = offsetMicros (unmapped n)
 
 abbrev pub frequencyAsked : ℕ → AskedFrequency

@@ -7,15 +7,15 @@ ghost use Rattle.history.specs.Inner.{refusedAs};
 use clock::units::AskedMicros;
 use number::decode::Decoded;
 use number::zigzag::unmap;
-use request::request::ADJ_CONSTANT;
 use request::request::ADJ_ESTERROR;
 use request::request::ADJ_FREQUENCY;
 use request::request::ADJ_MAXERROR;
 use request::request::ADJ_OFFSET;
 use request::request::ADJ_STATUS;
+use request::request::ADJ_TIMECONST;
 use request::request::Request;
 use request::units::AskedFrequency;
-use request::units::OffsetMicros;
+use request::units::AskedOffset;
 
 // An event of a history.
 pub enum Event {
@@ -95,10 +95,10 @@ fn field_at(bytes: &[u8], at: usize, mode: u64, bit: u64) -> Decoded
     Decoded::Value { value: 0, next: at }
 }
 
-fn offset_of(n: u64) -> OffsetMicros
+fn offset_of(n: u64) -> AskedOffset
     ensures { λ r. ⌜ r ≡ offsetAsked n ⌝ }
 {
-    OffsetMicros(unmap(n))
+    AskedOffset(unmap(n))
 }
 
 fn frequency_of(n: u64) -> AskedFrequency
@@ -140,7 +140,7 @@ fn request_at(bytes: &[u8], at: usize) -> Entry
         return refusal_of(d5);
     };
     let status = value;
-    let d6 = field_at(bytes, next, bits, ADJ_CONSTANT);
+    let d6 = field_at(bytes, next, bits, ADJ_TIMECONST);
     let Decoded::Value { value, next } = d6 else {
         return refusal_of(d6);
     };
