@@ -67,10 +67,10 @@ fn tell_refusal(number: u64, times: u64) {
     if times == 0 {
         return;
     }
-    io::write_all(STDOUT_FILENO, b", ");
-    io::print_decimal(STDOUT_FILENO, times);
-    io::write_all(STDOUT_FILENO, b" of ");
+    io::write_all(STDOUT_FILENO, b", refusal ");
     io::print_decimal(STDOUT_FILENO, number);
+    io::write_all(STDOUT_FILENO, b": ");
+    io::print_decimal(STDOUT_FILENO, times);
 }
 
 fn tell_group(group: u64, t: Tally, met: &[u64; 16]) {
