@@ -2,6 +2,7 @@
 use crate::rules::State;
 use crate::rules::sound;
 use crate::signed::minus;
+use crate::signed::pick;
 use crate::signed::plus;
 
 // A place in a calendar: the years or months passed, and the days that are left.
@@ -94,39 +95,52 @@ fn digit(n: u64) -> u8 {
     (n % 10 + 48) as u8
 }
 
-// The label of a second, then `fill` four times; `sixty` has the last second of a day read 60.
-pub(crate) fn label_of(second: u64, sixty: bool, fill: u8) -> [u8; 24] {
+// The numbers of a label.
+struct Parts {
+    year: u64,
+    month: u64,
+    day: u64,
+    hour: u64,
+    minute: u64,
+    second: u64,
+}
+
+fn parts_of(second: u64, sixty: bool) -> Parts {
     let y = year_at(second / 86400);
     let m = month_at(y.passed, y.days);
-    let day = plus(m.days, 1);
-    let year = y.passed;
-    let month = m.passed;
-    let hour = second % 86400 / 3600;
-    let minute = second % 3600 / 60;
-    let mut s = second % 60;
-    if sixty {
-        s = 60;
+    Parts {
+        year: y.passed,
+        month: m.passed,
+        day: plus(m.days, 1),
+        hour: second % 86400 / 3600,
+        minute: second % 3600 / 60,
+        second: pick(sixty, 60, second % 60),
     }
+}
+
+// The label of a second, then `fill` four times; `sixty` has the last second of a day read 60.
+pub(crate) fn label_of(second: u64, sixty: bool, fill: u8) -> [u8; 24] {
+    let p = parts_of(second, sixty);
     [
-        digit(year / 1000),
-        digit(year / 100),
-        digit(year / 10),
-        digit(year),
+        digit(p.year / 1000),
+        digit(p.year / 100),
+        digit(p.year / 10),
+        digit(p.year),
         b'-',
-        digit(month / 10),
-        digit(month),
+        digit(p.month / 10),
+        digit(p.month),
         b'-',
-        digit(day / 10),
-        digit(day),
+        digit(p.day / 10),
+        digit(p.day),
         b'T',
-        digit(hour / 10),
-        digit(hour),
+        digit(p.hour / 10),
+        digit(p.hour),
         b':',
-        digit(minute / 10),
-        digit(minute),
+        digit(p.minute / 10),
+        digit(p.minute),
         b':',
-        digit(s / 10),
-        digit(s),
+        digit(p.second / 10),
+        digit(p.second),
         b'Z',
         fill,
         fill,

@@ -17,46 +17,63 @@ use libc::STDOUT_FILENO;
 // Differences told one by one in each group; the others are only counted.
 const TOLD: u64 = 5;
 
+// What is compared, in the order of the lines.
+enum Group {
+    Ticks,
+    Settings,
+    Requests,
+    Readings,
+    Events,
+    CallsInLists,
+    NumbersRead,
+    NumbersWritten,
+    NumbersMapped,
+    LabelsWritten,
+    LabelsRead,
+    Days,
+}
+
 struct Tally {
     compared: u64,
     differ: u64,
 }
 
-fn group_name(group: u64) {
+fn group_name(group: Group) {
     match group {
-        0 => io::write_all(STDOUT_FILENO, b"ticks"),
-        1 => io::write_all(STDOUT_FILENO, b"settings"),
-        2 => io::write_all(STDOUT_FILENO, b"requests"),
-        3 => io::write_all(STDOUT_FILENO, b"readings"),
-        4 => io::write_all(STDOUT_FILENO, b"events"),
-        5 => io::write_all(STDOUT_FILENO, b"numbers read"),
-        6 => io::write_all(STDOUT_FILENO, b"numbers written"),
-        7 => io::write_all(STDOUT_FILENO, b"numbers mapped"),
-        8 => io::write_all(STDOUT_FILENO, b"labels written"),
-        9 => io::write_all(STDOUT_FILENO, b"labels read"),
-        10 => io::write_all(STDOUT_FILENO, b"days"),
-        _ => io::write_all(STDOUT_FILENO, b"calls in lists"),
+        Group::Ticks => io::write_all(STDOUT_FILENO, b"ticks"),
+        Group::Settings => io::write_all(STDOUT_FILENO, b"settings"),
+        Group::Requests => io::write_all(STDOUT_FILENO, b"requests"),
+        Group::Readings => io::write_all(STDOUT_FILENO, b"readings"),
+        Group::Events => io::write_all(STDOUT_FILENO, b"events"),
+        Group::NumbersRead => io::write_all(STDOUT_FILENO, b"numbers read"),
+        Group::NumbersWritten => io::write_all(STDOUT_FILENO, b"numbers written"),
+        Group::NumbersMapped => io::write_all(STDOUT_FILENO, b"numbers mapped"),
+        Group::LabelsWritten => io::write_all(STDOUT_FILENO, b"labels written"),
+        Group::LabelsRead => io::write_all(STDOUT_FILENO, b"labels read"),
+        Group::Days => io::write_all(STDOUT_FILENO, b"days"),
+        Group::CallsInLists => io::write_all(STDOUT_FILENO, b"calls in lists"),
     }
     ;
 }
 
-fn run_case(group: u64, case: u64) -> Verdict {
+// One case of a group whose cases stand each for itself. A call in a list has no such case: an event stands for it.
+fn run_case(group: Group, case: u64) -> Verdict {
     match group {
-        0 => calls::tick(case),
-        1 => calls::set(case),
-        2 => calls::adjust(case),
-        3 => calls::read(case),
-        4 => calls::any_step(case),
-        5 => numbers::read(case),
-        6 => numbers::write(case),
-        7 => numbers::map(case),
-        8 => labels::write(case),
-        9 => labels::read(case),
-        _ => labels::day(case),
+        Group::Ticks => calls::tick(case),
+        Group::Settings => calls::set(case),
+        Group::Requests => calls::adjust(case),
+        Group::Readings => calls::read(case),
+        Group::Events | Group::CallsInLists => calls::any_step(case),
+        Group::NumbersRead => numbers::read(case),
+        Group::NumbersWritten => numbers::write(case),
+        Group::NumbersMapped => numbers::map(case),
+        Group::LabelsWritten => labels::write(case),
+        Group::LabelsRead => labels::read(case),
+        Group::Days => labels::day(case),
     }
 }
 
-fn tell_case(group: u64, case: u64) {
+fn tell_case(group: Group, case: u64) {
     group_name(group);
     io::write_all(STDOUT_FILENO, b": case ");
     io::print_decimal(STDOUT_FILENO, case);
@@ -73,7 +90,7 @@ fn tell_refusal(number: u64, times: u64) {
     io::print_decimal(STDOUT_FILENO, times);
 }
 
-fn tell_group(group: u64, t: Tally, met: &[u64; 16]) {
+fn tell_group(group: Group, t: Tally, met: &[u64; 16]) {
     group_name(group);
     tell_counts(t);
     io::write_all(STDOUT_FILENO, b"; accepted ");
@@ -95,7 +112,7 @@ fn tell_counts(t: Tally) {
 }
 
 // One more difference.
-fn differing(group: u64, case: u64, differ: u64) -> u64 {
+fn differing(group: Group, case: u64, differ: u64) -> u64 {
     if differ < TOLD {
         tell_case(group, case);
     }
@@ -103,7 +120,7 @@ fn differing(group: u64, case: u64, differ: u64) -> u64 {
 }
 
 // The cases 0 to n - 1 of a group.
-fn run(group: u64, n: u64) -> Tally {
+fn run(group: Group, n: u64) -> Tally {
     let mut met = [0u64; 16];
     let mut differ: u64 = 0;
     let mut i: u64 = 0;
@@ -142,7 +159,7 @@ fn run_lists(n: u64) -> Tally {
         let k = (e.verdict.refusal % 16) as usize;
         met[k] = plus(met[k], 1);
         if !e.verdict.same {
-            differ = differing(11, case, differ);
+            differ = differing(Group::CallsInLists, case, differ);
         }
         s = e.state;
         c = e.clock;
@@ -151,7 +168,7 @@ fn run_lists(n: u64) -> Tally {
         compared: n,
         differ: differ,
     };
-    tell_group(11, t, &met);
+    tell_group(Group::CallsInLists, t, &met);
     t
 }
 
@@ -163,18 +180,18 @@ fn both(a: Tally, b: Tally) -> Tally {
 }
 
 fn main() {
-    let mut t = run(0, 100000);
-    t = both(t, run(1, 20000));
-    t = both(t, run(2, 100000));
-    t = both(t, run(3, 10000));
-    t = both(t, run(4, 50000));
+    let mut t = run(Group::Ticks, 100000);
+    t = both(t, run(Group::Settings, 20000));
+    t = both(t, run(Group::Requests, 100000));
+    t = both(t, run(Group::Readings, 10000));
+    t = both(t, run(Group::Events, 50000));
     t = both(t, run_lists(500000));
-    t = both(t, run(5, 100000));
-    t = both(t, run(6, 50000));
-    t = both(t, run(7, 10000));
-    t = both(t, run(8, 30000));
-    t = both(t, run(9, 120000));
-    t = both(t, run(10, 49711));
+    t = both(t, run(Group::NumbersRead, 100000));
+    t = both(t, run(Group::NumbersWritten, 50000));
+    t = both(t, run(Group::NumbersMapped, 10000));
+    t = both(t, run(Group::LabelsWritten, 30000));
+    t = both(t, run(Group::LabelsRead, 120000));
+    t = both(t, run(Group::Days, 49711));
     io::write_all(STDOUT_FILENO, b"in all");
     tell_counts(t);
     io::write_all(STDOUT_FILENO, b"\n");

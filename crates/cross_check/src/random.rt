@@ -94,7 +94,8 @@ fn micros(case: u64, what: u64) -> u64 {
     plus(996088, draw(case, what) % 12)
 }
 
-// The second of an earlier update: mostly at most 1,100 before the present one, or anywhere; 0 mostly where there was none.
+// The second of an earlier update: mostly less than 1,100 before the present one, often about 1,024, or anywhere; 0 mostly where there was
+// none.
 fn earlier(case: u64, what: u64, flag: u64, seconds: u64) -> u64 {
     let kind = draw(case, what) % 16;
     let v = wide(case, plus(what, 1));
@@ -106,6 +107,9 @@ fn earlier(case: u64, what: u64, flag: u64, seconds: u64) -> u64 {
     }
     if kind < 5 {
         return least(plus(seconds, v % 3), 4294967295);
+    }
+    if kind < 8 {
+        return minus(seconds, 1022 + v % 5);
     }
     minus(seconds, v % 1100)
 }

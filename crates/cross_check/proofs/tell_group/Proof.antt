@@ -5,10 +5,10 @@ use Rattle.cross_check.proofs.tell_group.Statement.{statement}
 use Rattle.cross_check.proofs.tell_group.Tie as tie
 
 abbrev Inv-loop : tie.InvT-loop
-Inv-loop group met k₀ t6 k = k ≤ 16
+Inv-loop met k₀ t6 k = k ≤ 16
 
 abbrev μ-loop : tie.MeasureT-loop
-μ-loop group met k₀ t6 k = 16 - k
+μ-loop met k₀ t6 k = 16 - k
 
 group-name-requires : tie.Need-group-name-requires Inv-loop μ-loop
 group-name-requires c κs = search needs
