@@ -82,7 +82,7 @@ fn some_second(case: u64) -> u64 {
     crate::random::second(case, 413)
 }
 
-// Twenty-four cases for each label: each of its bytes changed, none changed, and parts of 19, 21 and 24 bytes.
+// Twenty-four cases for each label: each of its bytes changed, none changed, and parts of 19 to 22 bytes.
 pub(crate) fn read(case: u64) -> Verdict {
     let base = case / 24;
     let place = case % 24;
