@@ -5,3 +5,4 @@ pub mod Remaining
 pub mod StepLaws
 pub mod FillLaws
 pub mod Examples
+pub mod Whole

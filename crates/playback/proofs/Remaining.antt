@@ -34,8 +34,8 @@ module _ (s : List ℕ) where
   same-after f g at c h (found e next) i = ap (before (lineOf c e)) (h next (outcomeOf c e .clock) (event-past s at i))
   same-after f g at c h (refused n) i = refl
 
-  -- as many events as bytes are left are enough
-  enough : (k j at : ℕ) (c : Clock) → length s ≤ at + k → length s ≤ at + j → playedFrom k s at c ≡ playedFrom j s at c
+  -- as many events as bytes are left are enough: more of them give the same
+  pub enough : (k j at : ℕ) (c : Clock) → length s ≤ at + k → length s ≤ at + j → playedFrom k s at c ≡ playedFrom j s at c
   enough zero j at c h g = ended-from zero at c (omega arith) ∙ sym (ended-from j at c (omega arith))
   enough (suc k) zero at c h g = ended-from (suc k) at c (omega arith) ∙ sym (ended-from zero at c (omega arith))
   enough (suc k) (suc j) at c h g =

@@ -5,11 +5,12 @@ ghost use lib.ListN.{length};
 ghost use Rattle.replay.specs.Input.{most};
 use libc::STDIN_FILENO;
 use libc::STDOUT_FILENO;
+use playback::run::LONGEST;
 use playback::run::fill;
 use playback::run::start;
 
 // One byte more than the longest history, so that a longer one is seen.
-const ROOM: usize = 65537;
+const ROOM: usize = LONGEST + 1;
 
 // What was read: so many bytes, up to the end of the input or of the room; or a read failed.
 enum Input {
