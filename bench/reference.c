@@ -1,0 +1,658 @@
+/*
+ * The operations of document 01 in plain C, for bench/run to hold the proved ones against: the same lines of input as crates/bench
+ * ("tick 1000000"), the same checksums. The state is changed in place, as a C programmer would have it; every call judges its state and
+ * arguments as document 01 asks.
+ *
+ * strftime N, strptime N: the label operations by the C library, which judges less; their checksums stand alone.
+ */
+#define _GNU_SOURCE
+#include <inttypes.h>
+#include <stdbool.h>
+#include <stdint.h>
+#include <stdio.h>
+#include <stdlib.h>
+#include <string.h>
+#include <time.h>
+
+#define LAST_SECOND UINT32_MAX
+#define MAX_ERROR 16000000
+#define MAX_FREQUENCY 1677721600
+#define MAX_LEFT 2097135616
+#define PHASE_US (1 << 28) /* phase units in a microsecond */
+#define BASE 67108864      /* the 64 us a second that 256 x 3,906 us lack */
+
+enum { OK, INS, DEL, OOP, BAD };
+
+enum { OFFSET = 1, FREQUENCY = 2, MAXERROR = 4, ESTERROR = 8, STATUS = 16, CONSTANT = 32 };
+
+struct clock {
+	uint32_t seconds;
+	uint32_t micros;
+	int32_t phase;
+	int32_t offset;
+	int32_t frequency;
+	int32_t adjustment;
+	uint8_t constant;
+	uint8_t updated;
+	uint32_t reftime;
+	uint32_t maxerror;
+	uint32_t esterror;
+	uint8_t status;
+};
+
+struct request {
+	uint64_t mode;
+	int64_t offset;
+	int64_t frequency;
+	uint64_t maxerror;
+	uint64_t esterror;
+	uint64_t status;
+	uint64_t constant;
+};
+
+static const struct clock fresh = {
+	.adjustment = BASE,
+	.maxerror = MAX_ERROR,
+	.esterror = MAX_ERROR,
+	.status = BAD,
+};
+
+static bool in_range(const struct clock *c)
+{
+	return c->micros <= 999999
+		&& -PHASE_US < c->phase && c->phase < PHASE_US
+		&& -MAX_LEFT <= c->offset && c->offset <= MAX_LEFT
+		&& -MAX_FREQUENCY <= c->frequency && c->frequency <= MAX_FREQUENCY
+		&& -168819712 <= c->adjustment && c->adjustment <= 303037440
+		&& c->constant <= 4
+		&& c->updated <= 1 && (c->updated || c->reftime == 0)
+		&& c->maxerror <= MAX_ERROR
+		&& c->esterror <= MAX_ERROR
+		&& c->status <= BAD;
+}
+
+static void rollover(struct clock *c)
+{
+	c->seconds++;
+	c->maxerror = c->maxerror <= MAX_ERROR - 100 ? c->maxerror + 100 : MAX_ERROR;
+	int32_t share = c->offset / (1 << (10 + c->constant));
+	c->offset -= share;
+	c->adjustment = 64 * share + c->frequency / 16 + BASE;
+	switch (c->status) {
+	case INS:
+		if (c->seconds % 86400 == 0) {
+			c->seconds--;
+			c->status = OOP;
+		}
+		break;
+	case DEL:
+		if (c->seconds % 86400 == 86399) {
+			c->seconds++;
+			c->status = OK;
+		}
+		break;
+	case OOP:
+		c->status = OK;
+		break;
+	}
+}
+
+static int tick(struct clock *c)
+{
+	if (!in_range(c))
+		return 1;
+	int32_t sum = c->phase + c->adjustment;
+	int32_t carry = sum / PHASE_US;
+	uint32_t micros = c->micros + 3906 + carry;
+	if (micros < 1000000) {
+		c->micros = micros;
+		c->phase = sum - carry * PHASE_US;
+		return 0;
+	}
+	if (c->seconds == LAST_SECOND)
+		return 3;
+	c->micros = micros - 1000000;
+	c->phase = sum - carry * PHASE_US;
+	rollover(c);
+	return 0;
+}
+
+static int run_ticks(struct clock *c, uint64_t n)
+{
+	for (; n > 0; n--) {
+		int refusal = tick(c);
+		if (refusal)
+			return refusal;
+	}
+	return 0;
+}
+
+static int set(struct clock *c, uint64_t seconds, uint64_t micros)
+{
+	if (!in_range(c))
+		return 1;
+	if (seconds > LAST_SECOND || micros > 999999)
+		return 2;
+	c->seconds = seconds;
+	c->micros = micros;
+	c->phase = 0;
+	c->offset = 0;
+	c->adjustment = c->frequency / 16 + BASE;
+	c->updated = 0;
+	c->reftime = 0;
+	c->maxerror = MAX_ERROR;
+	c->esterror = MAX_ERROR;
+	c->status = BAD;
+	return 0;
+}
+
+static int refusal_of(const struct clock *c, const struct request *r)
+{
+	if (!in_range(c))
+		return 1;
+	if (r->mode > 63)
+		return 4;
+	if ((r->mode & OFFSET) && (r->offset < -127999 || r->offset > 127999))
+		return 5;
+	if ((r->mode & FREQUENCY) && (r->frequency <= -MAX_FREQUENCY || r->frequency >= MAX_FREQUENCY))
+		return 6;
+	if ((r->mode & MAXERROR) && r->maxerror > MAX_ERROR)
+		return 7;
+	if ((r->mode & ESTERROR) && r->esterror > MAX_ERROR)
+		return 7;
+	if ((r->mode & STATUS) && r->status > BAD)
+		return 8;
+	if ((r->mode & CONSTANT) && r->constant > 4)
+		return 9;
+	return 0;
+}
+
+static int adjust(struct clock *c, const struct request *r)
+{
+	int refusal = refusal_of(c, r);
+	if (refusal)
+		return refusal;
+	if (r->mode & FREQUENCY)
+		c->frequency = r->frequency;
+	if (r->mode & MAXERROR)
+		c->maxerror = r->maxerror;
+	if (r->mode & ESTERROR)
+		c->esterror = r->esterror;
+	if ((r->mode & STATUS) && (c->status == OK || r->status == BAD))
+		c->status = r->status;
+	if (r->mode & CONSTANT)
+		c->constant = r->constant;
+	if (r->mode & OFFSET) {
+		uint32_t interval = 0;
+		if (c->updated && c->seconds > c->reftime) {
+			interval = c->seconds - c->reftime;
+			if (interval > 1024)
+				interval = 1024;
+		}
+		c->offset = (int32_t)r->offset * (1 << 14);
+		int32_t f = c->frequency + (int32_t)r->offset * (int32_t)interval / (1 << (2 * c->constant));
+		c->frequency = f < -MAX_FREQUENCY ? -MAX_FREQUENCY : f > MAX_FREQUENCY ? MAX_FREQUENCY : f;
+		c->updated = 1;
+		c->reftime = c->seconds;
+		if (c->status == BAD && !((r->mode & STATUS) && r->status == BAD))
+			c->status = OK;
+	}
+	return 0;
+}
+
+/* Numbers. A writer gives the place after the number, or 0 where the buffer is too short. */
+
+static size_t number_size(uint32_t n)
+{
+	return n < 1 << 7 ? 1 : n < 1 << 14 ? 2 : n < 1 << 21 ? 3 : n < 1 << 28 ? 4 : 5;
+}
+
+static size_t number_write(uint8_t *buf, size_t len, size_t at, uint32_t n)
+{
+	size_t size = number_size(n);
+	if (len < size || len - size < at)
+		return 0;
+	for (; n >= 128; n >>= 7)
+		buf[at++] = n | 128;
+	buf[at++] = n;
+	return at;
+}
+
+static int number_read(const uint8_t *bytes, size_t len, size_t *at, uint64_t *value)
+{
+	uint64_t n = 0;
+	size_t p = *at;
+	for (int shift = 0; shift < 35; shift += 7) {
+		if (p >= len)
+			return 10;
+		uint64_t b = bytes[p++];
+		n |= (b & 127) << shift;
+		if (b < 128) {
+			if (b == 0 && shift > 0)
+				return 11;
+			*value = n;
+			*at = p;
+			return 0;
+		}
+	}
+	return 11;
+}
+
+static int64_t unmap(uint64_t n)
+{
+	return (int64_t)(n >> 1) ^ -(int64_t)(n & 1);
+}
+
+static uint32_t map(int32_t v)
+{
+	return (uint32_t)v << 1 ^ (uint32_t)(v >> 31);
+}
+
+/* Labels. */
+
+static const char pairs[] =
+	"00010203040506070809101112131415161718192021222324252627282930313233343536373839404142434445464748495051525354555657585960"
+	"616263646566676869707172737475767778798081828384858687888990919293949596979899";
+
+static int label_write(const struct clock *c, uint8_t *out, size_t len)
+{
+	if (!in_range(c))
+		return 1;
+	if (len < 20)
+		return 14;
+	uint32_t day = c->seconds / 86400, of_day = c->seconds % 86400;
+	/* days from 1 March 1968; 2100 is no leap year */
+	uint32_t j = day + 671 + (day >= 47541);
+	uint32_t year = (4 * j + 3) / 1461;
+	uint32_t of_year = j - year * 1461 / 4;
+	uint32_t month = (5 * of_year + 2) / 153;
+	uint32_t date = of_year - (153 * month + 2) / 5 + 1;
+	month += 3;
+	year += 1968;
+	if (month > 12) {
+		month -= 12;
+		year++;
+	}
+	uint32_t hour = of_day / 3600, minute = of_day / 60 % 60, second = of_day % 60;
+	if (c->status == OOP && of_day == 86399)
+		second = 60;
+	memcpy(out, pairs + 2 * (year / 100), 2);
+	memcpy(out + 2, pairs + 2 * (year % 100), 2);
+	out[4] = '-';
+	memcpy(out + 5, pairs + 2 * month, 2);
+	out[7] = '-';
+	memcpy(out + 8, pairs + 2 * date, 2);
+	out[10] = 'T';
+	memcpy(out + 11, pairs + 2 * hour, 2);
+	out[13] = ':';
+	memcpy(out + 14, pairs + 2 * minute, 2);
+	out[16] = ':';
+	memcpy(out + 17, pairs + 2 * second, 2);
+	out[19] = 'Z';
+	return 0;
+}
+
+/* The number of two digits, or something above 99. */
+static uint32_t pair(const uint8_t *s)
+{
+	uint32_t tens = s[0] - '0', units = s[1] - '0';
+	return tens > 9 || units > 9 ? 10000 : 10 * tens + units;
+}
+
+static int label_read(const uint8_t *s, size_t len, uint32_t *seconds, bool *sixty)
+{
+	static const uint8_t month_days[] = { 31, 28, 31, 30, 31, 30, 31, 31, 30, 31, 30, 31 };
+
+	*seconds = 0;
+	*sixty = false;
+	if (len != 20 || s[4] != '-' || s[7] != '-' || s[10] != 'T' || s[13] != ':' || s[16] != ':' || s[19] != 'Z')
+		return 15;
+	uint32_t year = 100 * pair(s) + pair(s + 2), month = pair(s + 5), date = pair(s + 8);
+	uint32_t hour = pair(s + 11), minute = pair(s + 14), second = pair(s + 17);
+	if (year < 1970 || year > 2106 || month < 1 || month > 12)
+		return 15;
+	uint32_t leap = year % 4 == 0 && year != 2100;
+	if (date < 1 || date > month_days[month - 1] + (month == 2 ? leap : 0))
+		return 15;
+	if (hour > 23 || minute > 59 || second > 60)
+		return 15;
+	bool is_sixty = second == 60;
+	if (is_sixty) {
+		if (hour != 23 || minute != 59)
+			return 15;
+		second = 59;
+	}
+	uint32_t y = year - 1968 - (month < 3), m = month < 3 ? month + 9 : month - 3;
+	uint32_t j = y * 1461 / 4 + (153 * m + 2) / 5 + date - 1;
+	uint32_t day = j - 671 - (j >= 48213);
+	uint64_t at = (uint64_t)day * 86400 + hour * 3600 + minute * 60 + second;
+	if (at > LAST_SECOND)
+		return 15;
+	*seconds = at;
+	*sixty = is_sixty;
+	return 0;
+}
+
+/* Replay. */
+
+static uint8_t *put_decimal(uint8_t *out, uint32_t n)
+{
+	if (n >= 10)
+		out = put_decimal(out, n / 10);
+	*out++ = '0' + n % 10;
+	return out;
+}
+
+static uint8_t *put_refused(uint8_t *out, int refusal)
+{
+	memcpy(out, "refused ", 8);
+	out = put_decimal(out + 8, refusal);
+	*out++ = '\n';
+	return out;
+}
+
+static uint8_t *put_log(uint8_t *out, int refusal, uint32_t place)
+{
+	memcpy(out, "log ", 4);
+	out = put_decimal(out + 4, refusal);
+	memcpy(out, " at ", 4);
+	out = put_decimal(out + 4, place);
+	*out++ = '\n';
+	return out;
+}
+
+static uint8_t *put_print(uint8_t *out, const struct clock *c)
+{
+	label_write(c, out, 20);
+	out[20] = ' ';
+	memcpy(out + 21, pairs + 2 * (c->micros / 10000), 2);
+	memcpy(out + 23, pairs + 2 * (c->micros / 100 % 100), 2);
+	memcpy(out + 25, pairs + 2 * (c->micros % 100), 2);
+	out[27] = ' ';
+	out[28] = '0' + c->status;
+	out[29] = '\n';
+	return out + 30;
+}
+
+static int read_request(const uint8_t *bytes, size_t len, size_t *at, struct request *r)
+{
+	uint64_t field[6] = { 0 };
+	int refusal = number_read(bytes, len, at, &r->mode);
+	if (refusal)
+		return refusal;
+	for (int k = 0; k < 6; k++)
+		if (r->mode >> k & 1) {
+			refusal = number_read(bytes, len, at, &field[k]);
+			if (refusal)
+				return refusal;
+		}
+	r->offset = unmap(field[0]);
+	r->frequency = unmap(field[1]);
+	r->maxerror = field[2];
+	r->esterror = field[3];
+	r->status = field[4];
+	r->constant = field[5];
+	return 0;
+}
+
+/* Runs a history into `out`, which has room for all of its lines, and gives how many bytes it wrote. */
+static size_t replay(const uint8_t *bytes, size_t len, uint8_t *out)
+{
+	struct clock c = fresh;
+	struct request r;
+	uint8_t *end = out;
+	size_t at = 0;
+	if (len > 65536)
+		return put_log(out, 13, 65536) - out;
+	while (at < len) {
+		size_t place = at;
+		uint64_t code, a, b;
+		int undecodable, refusal = 0;
+		undecodable = number_read(bytes, len, &at, &code);
+		if (!undecodable)
+			switch (code) {
+			case 0:
+				undecodable = number_read(bytes, len, &at, &a);
+				if (!undecodable)
+					refusal = run_ticks(&c, a);
+				break;
+			case 1:
+				undecodable = number_read(bytes, len, &at, &a);
+				if (!undecodable)
+					undecodable = number_read(bytes, len, &at, &b);
+				if (!undecodable)
+					refusal = set(&c, a, b);
+				break;
+			case 2:
+				undecodable = read_request(bytes, len, &at, &r);
+				if (!undecodable)
+					refusal = adjust(&c, &r);
+				break;
+			case 3:
+				end = put_print(end, &c);
+				break;
+			default:
+				undecodable = 12;
+			}
+		if (undecodable)
+			return put_log(end, undecodable, place) - out;
+		if (refusal)
+			end = put_refused(end, refusal);
+	}
+	return end - out;
+}
+
+/* The benchmark. */
+
+/* Hides from the compiler what the loop lets it know of a value: a caller's values are not known to be sound. It costs nothing. */
+static uint64_t opaque(uint64_t x)
+{
+	__asm__("" : "+r"(x));
+	return x;
+}
+
+static uint64_t mix(uint64_t sum, uint32_t x)
+{
+	return (sum & ((UINT64_C(1) << 58) - 1)) * 31 + x;
+}
+
+static uint64_t mix_clock(uint64_t sum, const struct clock *c)
+{
+	sum = mix(mix(sum, c->seconds), c->micros);
+	sum = mix(mix(sum, map(c->phase)), map(c->offset));
+	sum = mix(mix(sum, map(c->frequency)), map(c->adjustment));
+	sum = mix(mix(sum, c->constant), c->updated);
+	sum = mix(mix(sum, c->reftime), c->maxerror);
+	return mix(mix(sum, c->esterror), c->status);
+}
+
+static struct clock begun(void)
+{
+	struct clock c = fresh;
+	struct request r = { .mode = OFFSET | FREQUENCY | CONSTANT, .offset = 1000, .frequency = 123456, .constant = 2 };
+	set(&c, 86000, 0);
+	adjust(&c, &r);
+	return c;
+}
+
+static uint64_t ticks(uint64_t count)
+{
+	struct clock c = begun();
+	uint64_t sum = 0;
+	for (uint64_t i = 0; i < count; i++) {
+		int refusal = tick(&c);
+		sum = mix(mix(sum, refusal), c.micros);
+	}
+	return mix_clock(sum, &c);
+}
+
+static uint64_t seconds(uint64_t count)
+{
+	struct clock c = begun();
+	uint64_t sum = 0;
+	for (uint64_t i = 0; i < count; i++) {
+		int refusal = run_ticks(&c, 256);
+		sum = mix(mix(sum, refusal), c.micros);
+	}
+	return mix_clock(sum, &c);
+}
+
+static uint64_t requests(uint64_t count)
+{
+	struct clock c = begun();
+	uint64_t sum = 0;
+	for (uint64_t i = 0; i < count; i++) {
+		uint64_t k = i / 64;
+		struct request r = {
+			.mode = opaque(i % 64),
+			.offset = opaque(unmap(k % 1024)),
+			.frequency = opaque(unmap(k % 65536)),
+			.maxerror = opaque(k % 512),
+			.esterror = opaque(k % 256),
+			.status = opaque(k % 4),
+			.constant = opaque(k % 4),
+		};
+		int refusal = adjust(&c, &r);
+		sum = mix(mix(sum, refusal), c.status);
+	}
+	return mix_clock(sum, &c);
+}
+
+#define STEP 2654435
+
+static uint64_t label_writes(uint64_t count)
+{
+	struct clock c = fresh;
+	uint8_t text[20] = { 0 };
+	uint64_t sum = 0;
+	for (uint64_t i = 0; i < count; i++) {
+		c.seconds += STEP;
+		__asm__("" : "+m"(c)); /* as opaque, for a whole clock */
+		int refusal = label_write(&c, text, sizeof text);
+		size_t p = i % 16;
+		sum = mix(mix(mix(sum, refusal), text[p]), text[p + 4]);
+	}
+	return sum;
+}
+
+static void fill_labels(uint8_t *texts)
+{
+	struct clock c = fresh;
+	for (int i = 0; i < 64; i++) {
+		c.seconds += STEP;
+		label_write(&c, texts + 20 * i, 20);
+	}
+}
+
+static uint64_t label_reads(uint64_t count)
+{
+	uint8_t texts[1280];
+	uint64_t sum = 0;
+	fill_labels(texts);
+	for (uint64_t i = 0; i < count; i++) {
+		uint32_t s;
+		bool sixty;
+		int refusal = label_read(texts + 20 * (i % 64), 20, &s, &sixty);
+		sum = mix(mix(sum, refusal), s);
+		if (sixty)
+			sum = mix(sum, 1);
+	}
+	return sum;
+}
+
+static uint64_t round_trips(uint32_t least, uint64_t count)
+{
+	uint8_t buf[8];
+	uint64_t sum = 0;
+	for (uint64_t i = 0; i < count; i++) {
+		size_t next = number_write(buf, sizeof buf, 0, least + i % 128), at = 0;
+		uint64_t value;
+		int refusal = number_read(buf, sizeof buf, &at, &value);
+		sum = mix(sum, next);
+		sum = refusal ? mix(sum, refusal) : mix(mix(sum, value), at);
+	}
+	return sum;
+}
+
+static uint64_t replays(uint64_t count)
+{
+	uint8_t history[] = {
+		1, 246, 162, 5, 0, 2, 33, 208, 15, 2, 0, 232, 7, 3, 2, 16, 1, 0, 208, 15, 3, 0, 184, 23, 3, 2, 16, 9, 2,
+	};
+	uint8_t out[4096];
+	uint64_t sum = 0;
+	for (uint64_t i = 0; i < count; i++) {
+		history[4] = i % 128;
+		size_t n = replay(history, sizeof history, out);
+		for (size_t k = 0; k < n; k++)
+			sum = mix(sum, out[k]);
+		sum = mix(sum, 0);
+	}
+	return sum;
+}
+
+static uint64_t strftimes(uint64_t count)
+{
+	char text[21];
+	uint32_t s = 0;
+	uint64_t sum = 0;
+	for (uint64_t i = 0; i < count; i++) {
+		struct tm tm;
+		s += STEP;
+		time_t t = s;
+		strftime(text, sizeof text, "%Y-%m-%dT%H:%M:%SZ", gmtime_r(&t, &tm));
+		size_t p = i % 16;
+		sum = mix(mix(mix(sum, 0), text[p]), text[p + 4]);
+	}
+	return sum;
+}
+
+static uint64_t strptimes(uint64_t count)
+{
+	static char texts[64][21];
+	uint8_t plain[1280];
+	uint64_t sum = 0;
+	fill_labels(plain);
+	for (int i = 0; i < 64; i++)
+		memcpy(texts[i], plain + 20 * i, 20);
+	for (uint64_t i = 0; i < count; i++) {
+		struct tm tm = { 0 };
+		const char *end = strptime(texts[i % 64], "%Y-%m-%dT%H:%M:%SZ", &tm);
+		sum = mix(mix(sum, end && !*end ? 0 : 15), timegm(&tm));
+	}
+	return sum;
+}
+
+int main(void)
+{
+	static const struct {
+		const char *word;
+		uint64_t (*run)(uint64_t count);
+	} operations[] = {
+		{ "tick", ticks },
+		{ "second", seconds },
+		{ "request", requests },
+		{ "label-write", label_writes },
+		{ "label-read", label_reads },
+		{ "replay", replays },
+		{ "strftime", strftimes },
+		{ "strptime", strptimes },
+	};
+	char word[16];
+	uint64_t count;
+	while (scanf("%15s %" SCNu64, word, &count) == 2) {
+		bool known = false;
+		for (size_t k = 0; k < sizeof operations / sizeof *operations; k++)
+			if (!strcmp(word, operations[k].word)) {
+				printf("%" PRIu64 "\n", operations[k].run(count));
+				known = true;
+			}
+		if (!strncmp(word, "number-", 7)) {
+			printf("%" PRIu64 "\n", round_trips(word[7] == '1' ? 0 : word[7] == '2' ? 128 : 1 << 28, count));
+			known = true;
+		}
+		if (!known)
+			printf("no such operation\n");
+	}
+	return 0;
+}

@@ -1,0 +1,66 @@
+-- `bench::clocks::requests` is safe and ends.
+use mathlib.Core.Path.{_≡_}
+use Prim.Native.Nat.{_≤_, _<_, _+_, _-_}
+use native.Mathlib.Omega.{arith}
+use borrow.Author.Needs.{needs}
+use lib.ListN.{length}
+use Rattle.bench.proofs.clocks.requests.Statement.{statement}
+use Rattle.bench.proofs.clocks.requests.Tie as tie
+use Rattle.bench.proofs.clocks.begun.Reads as begun-reads
+use Rattle.bench.proofs.clocks.mix_outcome.Reads as mix-outcome-reads
+use Rattle.bench.proofs.clocks.request_of.Reads as request-of-reads
+use Rattle.bench.proofs.sum.mix_clock.Reads as mix-clock-reads
+use Rattle.request.proofs.request.adjust.Reads as adjust-reads
+
+abbrev Inv-loop : tie.InvT-loop
+Inv-loop count c₀ sum₀ i₀ c sum i = i ≤ count
+
+abbrev μ-loop : tie.MeasureT-loop
+μ-loop count c₀ sum₀ i₀ c sum i = count - i
+
+begun-requires : tie.Need-begun-requires Inv-loop μ-loop
+begun-requires c κs = search needs
+
+loop-holds : tie.Need-loop-holds Inv-loop μ-loop
+loop-holds c = search needs
+
+request-of-requires : tie.Need-request-of-requires Inv-loop μ-loop
+request-of-requires c κs = search needs
+
+adjust-requires : tie.Need-adjust-requires Inv-loop μ-loop
+adjust-requires c κs = search needs
+
+mix-outcome-requires : tie.Need-mix-outcome-requires Inv-loop μ-loop
+mix-outcome-requires c κs = search needs
+
+add-i : tie.Need-add-i Inv-loop μ-loop
+add-i c = search needs
+
+loop-less : tie.Need-loop-less Inv-loop μ-loop
+loop-less c = search needs
+
+loop-again : tie.Need-loop-again Inv-loop μ-loop
+loop-again c = search needs
+
+mix-clock-requires : tie.Need-mix-clock-requires Inv-loop μ-loop
+mix-clock-requires c κs = search needs
+
+returns : tie.Need-returns Inv-loop μ-loop
+returns c = search needs
+
+pub requests-spec : {M : Type 1} → statement M
+requests-spec =
+    tie.close
+    (tie.spec
+    Inv-loop
+    μ-loop
+    begun-requires
+    loop-holds
+    request-of-requires
+    adjust-requires
+    mix-outcome-requires
+    add-i
+    loop-less
+    loop-again
+    mix-clock-requires
+    returns)

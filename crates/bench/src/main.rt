@@ -1,0 +1,135 @@
+// Repeats an operation as often as a line of standard input says, as `tick 1000000`, and prints a checksum that depends on every result:
+// one for each line. `bench/run` compares the cost of each with that of the same operation in C.
+mod clocks;
+mod labels;
+mod numbers;
+mod replays;
+mod sum;
+
+ghost use Prim.Native.Nat.{_≤_};
+ghost use lib.ListN.{length};
+use libc::STDIN_FILENO;
+use libc::STDOUT_FILENO;
+
+fn wide(b: u8) -> u64 {
+    b as u64
+}
+
+fn starts_with(line: &[u8], word: &[u8]) -> bool {
+    if line.len() < word.len() {
+        return false;
+    }
+    let mut i = 0;
+    while i < word.len() {
+        if line[i] != word[i] {
+            return false;
+        }
+        i += 1;
+    }
+    true
+}
+
+// The number that a line's last word says in digits; of a longer one, the last eighteen digits.
+fn count_of(line: &[u8]) -> u64 {
+    let mut n: u64 = 0;
+    let mut i = 0;
+    while i < line.len() {
+        let b = wide(line[i]);
+        if b == 32 {
+            n = 0;
+        }
+        if (48 <= b) & (b <= 57) {
+            n = n % 100000000000000000 * 10 + b % 16;
+        }
+        i += 1;
+    }
+    n
+}
+
+// The least number of 1, 2 or 5 bytes.
+fn least_number(line: &[u8]) -> u32 {
+    if starts_with(line, b"number-1 ") {
+        return 0;
+    }
+    if starts_with(line, b"number-2 ") {
+        return 128;
+    }
+    268435456
+}
+
+enum Answer {
+    Checksum(u64),
+    NoOperation,
+}
+
+fn run(line: &[u8]) -> Answer {
+    let count = count_of(line);
+    if starts_with(line, b"tick ") {
+        return Answer::Checksum(clocks::ticks(count));
+    }
+    if starts_with(line, b"second ") {
+        return Answer::Checksum(clocks::seconds(count));
+    }
+    if starts_with(line, b"request ") {
+        return Answer::Checksum(clocks::requests(count));
+    }
+    if starts_with(line, b"label-write ") {
+        return Answer::Checksum(labels::writes(count));
+    }
+    if starts_with(line, b"label-read ") {
+        return Answer::Checksum(labels::reads(count));
+    }
+    if starts_with(line, b"number-") {
+        return Answer::Checksum(numbers::round_trips(least_number(line), count));
+    }
+    if starts_with(line, b"replay ") {
+        return Answer::Checksum(replays::replays(count));
+    }
+    Answer::NoOperation
+}
+
+fn print_answer(line: &[u8]) {
+    let a = run(line);
+    match a {
+        Answer::Checksum(sum) => {
+            io::print_decimal(STDOUT_FILENO, sum);
+        }
+        Answer::NoOperation => {
+            io::write_all(STDOUT_FILENO, b"no such operation");
+        }
+    }
+    io::write_all(STDOUT_FILENO, b"\n");
+}
+
+// The place of the line's end.
+fn end_of_line(text: &[u8], at: usize) -> usize
+    requires { ⌜ at ≤ length (now text) ⌝ }
+    ensures { λ r. ⌜ (at ≤ r) × (r ≤ length (now (text .entry))) ⌝ }
+{
+    let mut e = at;
+    while e < text.len() {
+        if text[e] == 10 {
+            return e;
+        }
+        e += 1;
+    }
+    e
+}
+
+fn run_lines(text: &[u8]) {
+    let mut p = 0;
+    while p < text.len() {
+        let e = end_of_line(text, p);
+        print_answer(&text[p..e]);
+        if e == text.len() {
+            return;
+        }
+        p = e + 1;
+    }
+}
+
+fn main() {
+    let mut buf = io::buffer();
+    let n = io::read_full(STDIN_FILENO, &mut buf);
+    run_lines(&buf[..n]);
+}
