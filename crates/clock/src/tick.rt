@@ -1,7 +1,7 @@
 ghost use mathlib.Core.Path.{_≡_};
 ghost use mathlib.Core.Bool.{true};
 ghost use Rattle.clock.specs.State.{inRange};
-ghost use Rattle.clock.specs.Tick.{tickOf};
+ghost use Rattle.clock.specs.Tick.{rollsOver, tickOf};
 ghost use Rattle.clock.specs.Inner.{advanceOf};
 use crate::device::RECORDER;
 use crate::outcome::Outcome;
@@ -14,12 +14,12 @@ use crate::units::PHASE_PER_MICRO;
 use crate::units::PhaseUnits;
 
 // The microseconds and the phase that a tick leads to, before a rollover takes a second off.
-struct Advance {
-    micros: Micros,
-    phase: PhaseUnits,
+pub(crate) struct Advance {
+    pub(crate) micros: Micros,
+    pub(crate) phase: PhaseUnits,
 }
 
-fn advance_of(c: Clock) -> Advance
+pub(crate) fn advance_of(c: Clock) -> Advance
     requires { ⌜ inRange c ≡ true ⌝ }
     ensures { λ r. ⌜ r ≡ advanceOf c ⌝ }
 {
@@ -28,6 +28,32 @@ fn advance_of(c: Clock) -> Advance
     Advance {
         micros: Micros(((c.micros.0 + RECORDER.tick.0) as i32 + carry) as u32),
         phase: PhaseUnits(sum - carry * PHASE_PER_MICRO),
+    }
+}
+
+// A tick that reaches the end of its second. Apart from `tick`, so that the 255 others of a second stay short.
+pub(crate) fn overflow(c: Clock, a: Advance) -> Outcome
+    requires { ⌜ inRange c ≡ true ⌝ }
+    requires { ⌜ rollsOver c ≡ true ⌝ }
+    requires { ⌜ a ≡ advanceOf c ⌝ }
+    ensures { λ r. ⌜ r ≡ tickOf c ⌝ }
+{
+    if c.seconds == LAST_SECOND {
+        return Outcome {
+            refusal: 3,
+            clock: c,
+        };
+    }
+    let rest = Micros(a.micros.0 - 1000000);
+    let phase = a.phase;
+    let rolled = rollover(Clock {
+        micros: rest,
+        phase: phase,
+        ..c
+    });
+    Outcome {
+        refusal: 0,
+        clock: rolled,
     }
 }
 
@@ -55,20 +81,5 @@ pub fn tick(c: Clock) -> Outcome
             clock: advanced,
         };
     }
-    if c.seconds == LAST_SECOND {
-        return Outcome {
-            refusal: 3,
-            clock: c,
-        };
-    }
-    let rest = Micros(us.0 - 1000000);
-    let rolled = rollover(Clock {
-        micros: rest,
-        phase: phase,
-        ..c
-    });
-    Outcome {
-        refusal: 0,
-        clock: rolled,
-    }
+    overflow(c, a)
 }

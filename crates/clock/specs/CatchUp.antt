@@ -1,0 +1,20 @@
+-- Single ticks one after the other, none after one that rolls the second over.
+use Prim.Native.Nat.{ℕ, zero, suc, _-_}
+use mathlib.Core.Bool.{_&&_, not, cond}
+use lib.Dec.{eqb}
+use Rattle.clock.specs.State.{inRange}
+use Rattle.clock.specs.Refusal.{refuse}
+use Rattle.clock.specs.Tick.{rollsOver, tickOf}
+use Rattle.clock.specs.declared.state.Clock.{Clock}
+use Rattle.clock.specs.declared.outcome.Outcome.{Outcome}
+use Rattle.clock.specs.declared.catch_up.CaughtUp.{CaughtUp}
+
+-- what a tick answers, and how many are left after it of those that were left before: a refused one is not taken off
+abbrev pub caughtUp : Outcome → ℕ → CaughtUp
+caughtUp o n = record { refusal = o .refusal; clock = o .clock; left = cond (eqb (o .refusal) 0) (n - 1) n }
+
+-- up to n single ticks of c; of none, whether c can be ticked at all
+unfoldable pub ticksToRollover : ℕ → Clock → CaughtUp
+ticksToRollover zero c = record { refusal = refuse (not (inRange c)) 1 0; clock = c; left = 0 }
+ticksToRollover (suc n) c =
+    cond (not (rollsOver c) && eqb (tickOf c .refusal) 0) (ticksToRollover n (tickOf c .clock)) (caughtUp (tickOf c) (suc n))
