@@ -444,13 +444,6 @@ static size_t replay(const uint8_t *bytes, size_t len, uint8_t *out)
 
 /* The benchmark. */
 
-/* Hides from the compiler what the loop lets it know of a value: a caller's values are not known to be sound. It costs nothing. */
-static uint64_t opaque(uint64_t x)
-{
-	__asm__("" : "+r"(x));
-	return x;
-}
-
 static uint64_t mix(uint64_t sum, uint32_t x)
 {
 	return (sum & ((UINT64_C(1) << 58) - 1)) * 31 + x;
@@ -466,12 +459,16 @@ static uint64_t mix_clock(uint64_t sum, const struct clock *c)
 	return mix(mix(sum, c->esterror), c->status);
 }
 
+/* A clock with work to do: an offset of 1,000 us to pay off, a frequency, and time constant 2. */
 static struct clock begun(void)
 {
 	struct clock c = fresh;
-	struct request r = { .mode = OFFSET | FREQUENCY | CONSTANT, .offset = 1000, .frequency = 123456, .constant = 2 };
-	set(&c, 86000, 0);
-	adjust(&c, &r);
+	c.seconds = c.reftime = 86000;
+	c.offset = 1000 << 14;
+	c.frequency = 123456;
+	c.constant = 2;
+	c.updated = 1;
+	c.status = OK;
 	return c;
 }
 
@@ -499,18 +496,22 @@ static uint64_t seconds(uint64_t count)
 
 static uint64_t requests(uint64_t count)
 {
+	/* In memory, so that the compiler cannot know that what is asked for is in range. */
+	uint64_t values[64];
 	struct clock c = begun();
 	uint64_t sum = 0;
+	for (uint64_t i = 0; i < 64; i++)
+		values[i] = i;
 	for (uint64_t i = 0; i < count; i++) {
 		uint64_t k = i / 64;
 		struct request r = {
-			.mode = opaque(i % 64),
-			.offset = opaque(unmap(k % 1024)),
-			.frequency = opaque(unmap(k % 65536)),
-			.maxerror = opaque(k % 512),
-			.esterror = opaque(k % 256),
-			.status = opaque(k % 4),
-			.constant = opaque(k % 4),
+			.mode = values[i % 64],
+			.offset = unmap(values[k % 64]),
+			.frequency = unmap(values[k / 2 % 64]),
+			.maxerror = values[k / 3 % 64],
+			.esterror = values[k / 4 % 64],
+			.status = values[k % 4],
+			.constant = values[k % 5],
 		};
 		int refusal = adjust(&c, &r);
 		sum = mix(mix(sum, refusal), c.status);
@@ -527,7 +528,7 @@ static uint64_t label_writes(uint64_t count)
 	uint64_t sum = 0;
 	for (uint64_t i = 0; i < count; i++) {
 		c.seconds += STEP;
-		__asm__("" : "+m"(c)); /* as opaque, for a whole clock */
+		__asm__("" : "+m"(c)); /* hides from the compiler that all but the seconds stay */
 		int refusal = label_write(&c, text, sizeof text);
 		size_t p = i % 16;
 		sum = mix(mix(mix(sum, refusal), text[p]), text[p + 4]);

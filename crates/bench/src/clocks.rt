@@ -2,11 +2,13 @@
 use crate::sum::mix;
 use crate::sum::mix_clock;
 use clock::outcome::Outcome;
-use clock::setting::set;
 use clock::state::Clock;
-use clock::state::fresh;
 use clock::tick::tick;
 use clock::units::AskedMicros;
+use clock::units::Frequency;
+use clock::units::Micros;
+use clock::units::OffsetUnits;
+use clock::units::PhaseUnits;
 use number::zigzag::unmap;
 use request::request::Request;
 use request::request::adjust;
@@ -16,20 +18,20 @@ use ticks::run_ticks;
 
 // A clock with work to do: an offset of 1,000 us to pay off, a frequency, and time constant 2.
 fn begun() -> Clock {
-    let o = set(fresh(), 86000, AskedMicros(0));
-    let offset = AskedOffset(1000);
-    let frequency = AskedFrequency(123456);
-    let asked = Request {
-        mode: 35,
-        offset: offset,
-        frequency: frequency,
-        maxerror: AskedMicros(0),
-        esterror: AskedMicros(0),
-        status: 0,
+    Clock {
+        seconds: 86000,
+        micros: Micros(0),
+        phase: PhaseUnits(0),
+        offset: OffsetUnits(16384000),
+        frequency: Frequency(123456),
+        adjustment: PhaseUnits(67108864),
         constant: 2,
-    };
-    let q = adjust(o.clock, asked);
-    q.clock
+        updated: 1,
+        reftime: 86000,
+        maxerror: Micros(16000000),
+        esterror: Micros(16000000),
+        status: 0,
+    }
 }
 
 pub(crate) fn ticks(count: u64) -> u64 {
@@ -60,19 +62,34 @@ pub(crate) fn seconds(count: u64) -> u64 {
     mix_clock(sum, c)
 }
 
+// The numbers 0 to 63, in memory: what a request asks for is taken from there, so that the compiler cannot know that it is in range.
+fn numbers() -> [u64; 64] {
+    let mut values = [0u64; 64];
+    let mut i: usize = 0;
+    while i < 64 {
+        values[i] = i as u64;
+        i += 1;
+    }
+    values
+}
+
+fn number_at(values: &[u64; 64], i: u64) -> u64 {
+    values[(i % 64) as usize]
+}
+
 // The i-th request: every choice of fields in turn.
-fn request_of(i: u64) -> Request {
+fn request_of(values: &[u64; 64], i: u64) -> Request {
     let k = i / 64;
-    let offset = AskedOffset(unmap(k % 1024));
-    let frequency = AskedFrequency(unmap(k % 65536));
+    let offset = AskedOffset(unmap(number_at(values, k)));
+    let frequency = AskedFrequency(unmap(number_at(values, k / 2)));
     Request {
-        mode: i % 64,
+        mode: number_at(values, i),
         offset: offset,
         frequency: frequency,
-        maxerror: AskedMicros(k % 512),
-        esterror: AskedMicros(k % 256),
-        status: k % 4,
-        constant: k % 4,
+        maxerror: AskedMicros(number_at(values, k / 3)),
+        esterror: AskedMicros(number_at(values, k / 4)),
+        status: number_at(values, k % 4),
+        constant: number_at(values, k % 5),
     }
 }
 
@@ -81,11 +98,12 @@ fn mix_outcome(sum: u64, o: Outcome) -> u64 {
 }
 
 pub(crate) fn requests(count: u64) -> u64 {
+    let values = numbers();
     let mut c = begun();
     let mut sum: u64 = 0;
     let mut i: u64 = 0;
     while i < count {
-        let o = adjust(c, request_of(i));
+        let o = adjust(c, request_of(&values, i));
         sum = mix_outcome(sum, o);
         let next = o.clock;
         c = next;

@@ -3,7 +3,6 @@
 mod clocks;
 mod labels;
 mod numbers;
-mod replays;
 mod sum;
 
 ghost use Prim.Native.Nat.{_≤_};
@@ -81,9 +80,6 @@ fn run(line: &[u8]) -> Answer {
     }
     if starts_with(line, b"number-") {
         return Answer::Checksum(numbers::round_trips(least_number(line), count));
-    }
-    if starts_with(line, b"replay ") {
-        return Answer::Checksum(replays::replays(count));
     }
     Answer::NoOperation
 }

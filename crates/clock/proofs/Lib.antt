@@ -3,4 +3,4 @@ pub mod RollLaws
 pub mod TickLaws
 pub mod TickCases
 pub mod SettingCases
-mod CatchUpLaws
+pub mod CatchUpLaws

@@ -1,29 +1,76 @@
--- How many ticks go: one more, the one that is refused, and none.
-use mathlib.Core.Path.{_≡_, _∙_, ap}
-use Prim.Native.Nat.{ℕ, suc, _-_, _≤_, _<_}
+-- Many ticks, by those up to a rollover and those after it.
+use mathlib.Core.Path.{_≡_, sym, _∙_, ap}
+use mathlib.Core.Bool.{true, false, cond}
+use Prim.Native.Nat.{ℕ, zero, suc, _-_, _≤_, _<_}
 use native.Mathlib.Omega.{arith}
+use lib.Dec.{eqb}
 use borrow.Author.Tests.{eq-eqb, ne-eqb}
-use Rattle.clock.specs.Tick.{tickOf}
+use Rattle.clock.specs.State.{inRange}
+use Rattle.clock.specs.Tick.{advanced, microsGrown}
+use Rattle.clock.specs.CatchUp.{ticksToRollover}
 use Rattle.clock.specs.declared.state.Clock.{Clock}
 use Rattle.clock.specs.declared.outcome.Outcome.{Outcome}
+use Rattle.clock.specs.declared.catch_up.CaughtUp.{CaughtUp}
+use Rattle.clock.proofs.Ok.{ok-back}
+use Rattle.clock.proofs.TickCases.{TickCase, out, last, plain, rolls, tickCase}
+use Rattle.clock.proofs.CatchUpLaws.{none-out, stays-in-range}
 use Rattle.ticks.specs.Ticks.{ticksOf}
 
 pub ticks-none : (n : ℕ) (c : Clock) → n ≤ 0 → ticksOf n c ≡ record { refusal = 0; clock = c }
 unfolding ticksOf
 ticks-none n c h = let e : n ≡ 0 = omega arith in rw e
 
-module _ (c : Clock) (o : Outcome) (e : o ≡ tickOf c) where
-  first-refused : (m : ℕ) → (o .refusal ≡ 0 → ⊥) → ticksOf (suc m) c ≡ o
-  unfolding ticksOf
-  first-refused m h = rw (← e) (simp (ne-eqb (o .refusal) 0 h))
+-- the ticks that are left, run after those up to a rollover
+abbrev rest : CaughtUp → Outcome
+rest r = cond (eqb (r .refusal) 0) (ticksOf (r .left) (r .clock)) (record { refusal = r .refusal; clock = r .clock })
 
-  first-more : (m : ℕ) → o .refusal ≡ 0 → ticksOf (suc m) c ≡ ticksOf m (o .clock)
-  unfolding ticksOf
-  first-more m h = rw (← e) (simp (eq-eqb (o .refusal) 0 h))
+-- all n ticks are those up to a rollover and the rest
+Whole : ℕ → Type 0
+Whole n = (c : Clock) → inRange c ≡ true → ticksOf n c ≡ rest (ticksToRollover n c)
 
-  module _ (n : ℕ) (some : 0 < n) where
-    pub ticks-refused : (o .refusal ≡ 0 → ⊥) → ticksOf n c ≡ o
-    ticks-refused h = ap (λ (k : ℕ). ticksOf k c) (omega arith) ∙ first-refused (n - 1) h
+-- of one tick more, whatever the clock is
+one-more : (n : ℕ) → Whole n → (c : Clock) → TickCase c → ticksOf (suc n) c ≡ rest (ticksToRollover (suc n) c)
+unfolding Whole ticksOf ticksToRollover
+one-more n whole c (out t e) = rw (none-out c (suc n) t) (simp e)
+one-more n whole c (last k l e) = simp (e, l)
+one-more n whole c (plain k l less e) = simp (e, l) (whole (advanced c (microsGrown c)) (stays-in-range c (ok-back c k) l))
+one-more n whole c (rolls k l more less e) = let p : suc n - 1 ≡ n = omega arith in simp (e, l, p)
 
-    pub ticks-more : o .refusal ≡ 0 → ticksOf n c ≡ ticksOf (n - 1) (o .clock)
-    ticks-more h = ap (λ (k : ℕ). ticksOf k c) (omega arith) ∙ first-more (n - 1) h
+whole : (n : ℕ) → Whole n
+unfolding Whole ticksOf ticksToRollover
+whole zero c t = simp t
+whole (suc n) c t = one-more n (whole n) c (tickCase c)
+
+left-most : (n : ℕ) (c : Clock) → TickCase c → ticksToRollover n c .left ≤ n
+unfolding ticksToRollover
+left-most zero c k = omega arith
+left-most (suc n) c (out t e) = rw (none-out c (suc n) t) (omega arith)
+left-most (suc n) c (last k l e) = simp (e, l) (omega arith)
+left-most (suc n) c (plain k l less e) = simp (e, l) (omega (arith, left-most n (advanced c (microsGrown c)) (tickCase _)))
+left-most (suc n) c (rolls k l more less e) = simp (e, l) (omega arith)
+
+left-less : (n : ℕ) (c : Clock) → TickCase c → ticksToRollover (suc n) c .refusal ≡ 0 → ticksToRollover (suc n) c .left ≤ n
+unfolding ticksToRollover
+left-less n c (out t e) h = omega (arith, rw (none-out c (suc n) t) at h)
+left-less n c (last k l e) h = omega (arith, simp (e, l) at h)
+left-less n c (plain k l less e) h = simp (e, l) (left-most n (advanced c (microsGrown c)) (tickCase _))
+left-less n c (rolls k l more less e) h = simp (e, l) (omega arith)
+
+module _ (c : Clock) (r : CaughtUp) (n : ℕ) (some : 0 < n) (e : r ≡ ticksToRollover n c) where
+  counted : n ≡ suc (n - 1)
+  counted = omega arith
+
+  split : ticksOf n c ≡ rest r
+  split = ap (λ (k : ℕ). ticksOf k c) counted ∙ one-more (n - 1) (whole (n - 1)) c (tickCase c) ∙ ap rest (ap (λ (k : ℕ). ticksToRollover k c) (sym counted) ∙ sym e)
+
+  pub ticks-refused : (r .refusal ≡ 0 → ⊥) → ticksOf n c ≡ record { refusal = r .refusal; clock = r .clock }
+  ticks-refused h = split ∙ simp (ne-eqb (r .refusal) 0 h)
+
+  pub ticks-more : r .refusal ≡ 0 → ticksOf n c ≡ ticksOf (r .left) (r .clock)
+  ticks-more h = split ∙ simp (eq-eqb (r .refusal) 0 h)
+
+  pub ticks-fewer : r .refusal ≡ 0 → r .left < n
+  ticks-fewer h =
+      let q = ap (λ (k : ℕ). ticksToRollover k c) counted in
+      let l = left-less (n - 1) c (tickCase c) (ap (λ (x : CaughtUp). x .refusal) (sym (e ∙ q)) ∙ h) in
+      omega (arith, l, ap (λ (x : CaughtUp). x .left) (e ∙ q))

@@ -1,9 +1,9 @@
 // Many ticks in one call.
 ghost use mathlib.Core.Path.{_≡_};
 ghost use Rattle.ticks.specs.Ticks.{ticksOf};
+use clock::catch_up::ticks_to_rollover;
 use clock::outcome::Outcome;
 use clock::state::Clock;
-use clock::tick::tick;
 
 // Up to n single ticks. The answer of the first that is refused, with the clock that the accepted ones led to; or refusal 0.
 pub fn run_ticks(c: Clock, n: u64) -> Outcome
@@ -12,13 +12,16 @@ pub fn run_ticks(c: Clock, n: u64) -> Outcome
     let mut d = c;
     let mut left = n;
     while 0 < left {
-        let o = tick(d);
-        if o.refusal != 0 {
-            return o;
+        let r = ticks_to_rollover(d, left);
+        let next = r.clock;
+        if r.refusal != 0 {
+            return Outcome {
+                refusal: r.refusal,
+                clock: next,
+            };
         }
-        let next = o.clock;
         d = next;
-        left -= 1;
+        left = r.left;
     }
     Outcome {
         refusal: 0,

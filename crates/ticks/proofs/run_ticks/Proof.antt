@@ -3,7 +3,7 @@
 use mathlib.Core.Path.{_≡_, refl, sym, _∙_}
 use borrow.Author.Needs.{needs}
 use Rattle.ticks.specs.Ticks.{ticksOf}
-use Rattle.ticks.proofs.ManyTicks.{ticks-none, ticks-refused, ticks-more}
+use Rattle.ticks.proofs.ManyTicks.{ticks-none, ticks-refused, ticks-more, ticks-fewer}
 use Rattle.ticks.proofs.run_ticks.Statement.{statement}
 use Rattle.ticks.proofs.run_ticks.Tie as tie
 
@@ -16,26 +16,26 @@ abbrev μ-loop : tie.MeasureT-loop
 loop-holds : tie.Need-loop-holds Inv-loop μ-loop
 loop-holds c = refl
 
-tick-requires : tie.Need-tick-requires Inv-loop μ-loop
-tick-requires c κs = search needs
+ticks-to-rollover-requires : tie.Need-ticks-to-rollover-requires Inv-loop μ-loop
+ticks-to-rollover-requires c κs = search needs
 
 returns : tie.Need-returns Inv-loop μ-loop
 returns c =
-    let L = c .before .before .before .before .loop in
-    let t = c .before .before .tick in
-    sym (L .inv ∙ ticks-refused (L .d) (t .result) (t .ensures) (L .left) (c .before .before .before .loop-test .taken) (c .if1 .taken))
-
-sub-left : tie.Need-sub-left Inv-loop μ-loop
-sub-left c = search needs
+    let t = c .before .before .before in
+    let L = t .before .before .loop in
+    sym (L .inv ∙ ticks-refused (L .d) (t .ticks-to-rollover .result) (L .left) (t .before .loop-test .taken) (t .ticks-to-rollover .ensures) (c .if1 .taken))
 
 loop-less : tie.Need-loop-less Inv-loop μ-loop
-loop-less c = search needs
+loop-less c =
+    let t = c .before .before .before in
+    let L = t .before .before .loop in
+    ticks-fewer (L .d) (t .ticks-to-rollover .result) (L .left) (t .before .loop-test .taken) (t .ticks-to-rollover .ensures) (c .if1 .left)
 
 loop-again : tie.Need-loop-again Inv-loop μ-loop
 loop-again c =
-    let L = c .before .before .before .before .before .loop in
-    let t = c .before .before .before .tick in
-    L .inv ∙ ticks-more (L .d) (t .result) (t .ensures) (L .left) (c .before .before .before .before .loop-test .taken) (c .before .if1 .left)
+    let t = c .before .before .before in
+    let L = t .before .before .loop in
+    L .inv ∙ ticks-more (L .d) (t .ticks-to-rollover .result) (L .left) (t .before .loop-test .taken) (t .ticks-to-rollover .ensures) (c .if1 .left)
 
 returns-2 : tie.Need-returns-2 Inv-loop μ-loop
 returns-2 c = let L = c .before .loop in sym (L .inv ∙ ticks-none (L .left) (L .d) (c .loop-test .left))
@@ -47,9 +47,8 @@ run-ticks-spec =
     Inv-loop
     μ-loop
     loop-holds
-    tick-requires
+    ticks-to-rollover-requires
     returns
-    sub-left
     loop-less
     loop-again
     returns-2)

@@ -1,82 +1,111 @@
--- The chain of refusals, from the last to the first.
+-- The first refusal that applies, by the tests that have not.
 use borrow.Author.Needs.{needs}
-use Rattle.request.specs.Request.{requestRefusal}
+use borrow.Author.Tests.{not-true, not-false, lt-ltb, le-ltb}
+use mathlib.Core.Bool.{true, false}
+use mathlib.Core.Path.{_≡_, sym, _∙_}
+use Rattle.clock.specs.State.{inRange}
+use Rattle.request.specs.Request.{modeAbove, offsetOutside, frequencyOutside, errorAbove, statusAbove, constantAbove, requestRefusal}
 use Rattle.request.proofs.refusal.refusal_of.Statement.{statement}
 use Rattle.request.proofs.refusal.refusal_of.Tie as tie
 
-is-set-requires : tie.Need-is-set-requires
-is-set-requires c κs = search needs
+inside : (c : tie.Else1) → inRange (c .before .before .args .c) ≡ true
+inside c = sym (c .before .in-range .ensures) ∙ not-false _ (c .if1 .left)
 
-refuse-if-requires : tie.Need-refuse-if-requires
-refuse-if-requires c κs = search needs
+mode-fine : (c : tie.Else2) → modeAbove (c .before .before .before .before .args .r) ≡ false
+mode-fine c = le-ltb _ _ (c .if2 .left)
 
-is-set-requires-2 : tie.Need-is-set-requires-2
-is-set-requires-2 c κs = search needs
+offset-fine : (c : tie.Else3) → offsetOutside (c .before .before .before .before .before .before .args .r) ≡ false
+offset-fine c = sym (c .before .offset-outside .ensures) ∙ c .if3 .left
 
-refuse-if-requires-2 : tie.Need-refuse-if-requires-2
-refuse-if-requires-2 c κs = search needs
+frequency-fine : (c : tie.Else4) → frequencyOutside (c .before .before .before .before .before .before .before .before .args .r) ≡ false
+frequency-fine c = sym (c .before .frequency-outside .ensures) ∙ c .if4 .left
 
-error-above-requires : tie.Need-error-above-requires
-error-above-requires c κs = search needs
+errors-fine : (c : tie.Else5) → errorAbove (c .before .before .before .before .before .before .before .before .before .before .args .r) ≡ false
+errors-fine c = sym (c .before .error-above .ensures) ∙ c .if5 .left
 
-refuse-if-requires-3 : tie.Need-refuse-if-requires-3
-refuse-if-requires-3 c κs = search needs
+status-fine : (c : tie.Else6) → statusAbove (c .before .before .before .before .before .before .before .before .before .before .before .before .args .r) ≡ false
+status-fine c = sym (c .before .status-above .ensures) ∙ c .if6 .left
 
-frequency-outside-requires : tie.Need-frequency-outside-requires
-frequency-outside-requires c κs = search needs
-
-refuse-if-requires-4 : tie.Need-refuse-if-requires-4
-refuse-if-requires-4 c κs = search needs
-
-offset-outside-requires : tie.Need-offset-outside-requires
-offset-outside-requires c κs = search needs
-
-refuse-if-requires-5 : tie.Need-refuse-if-requires-5
-refuse-if-requires-5 c κs = search needs
-
-refuse-if-requires-6 : tie.Need-refuse-if-requires-6
-refuse-if-requires-6 c κs = search needs
+constant-fine : (c : tie.Else7) → constantAbove (c .before .before .before .before .before .before .before .before .before .before .before .before .before .before .args .r) ≡ false
+constant-fine c = sym (c .before .constant-above .ensures) ∙ c .if7 .left
 
 in-range-requires : tie.Need-in-range-requires
 in-range-requires c κs = search needs
 
-refuse-if-requires-7 : tie.Need-refuse-if-requires-7
-refuse-if-requires-7 c κs = search needs
-
 returns : tie.Need-returns
 unfolding requestRefusal
 returns c =
-    simp (
-      c .refuse-if7 .ensures,
-      c .before .in-range .ensures,
-      c .before .before .refuse-if6 .ensures,
-      c .before .before .before .before .refuse-if5 .ensures,
-      c .before .before .before .before .before .offset-outside .ensures,
-      c .before .before .before .before .before .before .refuse-if4 .ensures,
-      c .before .before .before .before .before .before .before .frequency-outside .ensures,
-      c .before .before .before .before .before .before .before .before .refuse-if3 .ensures,
-      c .before .before .before .before .before .before .before .before .before .error-above .ensures,
-      c .before .before .before .before .before .before .before .before .before .before .refuse-if2 .ensures,
-      c .before .before .before .before .before .before .before .before .before .before .before .before .is-set2 .ensures,
-      c .before .before .before .before .before .before .before .before .before .before .before .before .before .refuse-if .ensures,
-      c .before .before .before .before .before .before .before .before .before .before .before .before .before .before .before .is-set .ensures,
-    )
+    let t = sym (c .before .in-range .ensures) ∙ not-true _ (c .if1 .taken) in
+    simp t
+
+returns-2 : tie.Need-returns-2
+unfolding requestRefusal
+returns-2 c = simp (inside (c .before .before), lt-ltb _ _ (c .if2 .taken))
+
+offset-outside-requires : tie.Need-offset-outside-requires
+offset-outside-requires c κs = search needs
+
+returns-3 : tie.Need-returns-3
+unfolding requestRefusal
+returns-3 c =
+    let t = sym (c .before .offset-outside .ensures) ∙ c .if3 .taken in
+    simp (inside (c .before .before .before .before), mode-fine (c .before .before), t)
+
+frequency-outside-requires : tie.Need-frequency-outside-requires
+frequency-outside-requires c κs = search needs
+
+returns-4 : tie.Need-returns-4
+unfolding requestRefusal
+returns-4 c =
+    let t = sym (c .before .frequency-outside .ensures) ∙ c .if4 .taken in
+    simp (inside (c .before .before .before .before .before .before), mode-fine (c .before .before .before .before), offset-fine (c .before .before), t)
+
+error-above-requires : tie.Need-error-above-requires
+error-above-requires c κs = search needs
+
+returns-5 : tie.Need-returns-5
+unfolding requestRefusal
+returns-5 c =
+    let t = sym (c .before .error-above .ensures) ∙ c .if5 .taken in
+    simp (inside (c .before .before .before .before .before .before .before .before), mode-fine (c .before .before .before .before .before .before), offset-fine (c .before .before .before .before), frequency-fine (c .before .before), t)
+
+status-above-requires : tie.Need-status-above-requires
+status-above-requires c κs = search needs
+
+returns-6 : tie.Need-returns-6
+unfolding requestRefusal
+returns-6 c =
+    let t = sym (c .before .status-above .ensures) ∙ c .if6 .taken in
+    simp (inside (c .before .before .before .before .before .before .before .before .before .before), mode-fine (c .before .before .before .before .before .before .before .before), offset-fine (c .before .before .before .before .before .before), frequency-fine (c .before .before .before .before), errors-fine (c .before .before), t)
+
+constant-above-requires : tie.Need-constant-above-requires
+constant-above-requires c κs = search needs
+
+returns-7 : tie.Need-returns-7
+unfolding requestRefusal
+returns-7 c =
+    let t = sym (c .before .constant-above .ensures) ∙ c .if7 .taken in
+    simp (inside (c .before .before .before .before .before .before .before .before .before .before .before .before), mode-fine (c .before .before .before .before .before .before .before .before .before .before), offset-fine (c .before .before .before .before .before .before .before .before), frequency-fine (c .before .before .before .before .before .before), errors-fine (c .before .before .before .before), status-fine (c .before .before), t)
+
+returns-8 : tie.Need-returns-8
+unfolding requestRefusal
+returns-8 c = simp (inside (c .before .before .before .before .before .before .before .before .before .before .before .before), mode-fine (c .before .before .before .before .before .before .before .before .before .before), offset-fine (c .before .before .before .before .before .before .before .before), frequency-fine (c .before .before .before .before .before .before), errors-fine (c .before .before .before .before), status-fine (c .before .before), constant-fine c)
 
 pub refusal-of-spec : {M : Type 1} → statement M
 refusal-of-spec =
     tie.close
     (tie.spec
-    is-set-requires
-    refuse-if-requires
-    is-set-requires-2
-    refuse-if-requires-2
-    error-above-requires
-    refuse-if-requires-3
-    frequency-outside-requires
-    refuse-if-requires-4
-    offset-outside-requires
-    refuse-if-requires-5
-    refuse-if-requires-6
     in-range-requires
-    refuse-if-requires-7
-    returns)
+    returns
+    returns-2
+    offset-outside-requires
+    returns-3
+    frequency-outside-requires
+    returns-4
+    error-above-requires
+    returns-5
+    status-above-requires
+    returns-6
+    constant-above-requires
+    returns-7
+    returns-8)

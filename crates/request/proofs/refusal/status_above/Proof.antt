@@ -1,0 +1,13 @@
+-- The test of the rule.
+use borrow.Author.Needs.{needs}
+use Rattle.request.proofs.refusal.status_above.Statement.{statement}
+use Rattle.request.proofs.refusal.status_above.Tie as tie
+
+is-set-requires : tie.Need-is-set-requires
+is-set-requires c κs = search needs
+
+returns : tie.Need-returns
+returns c = simp (c .before .is-set .ensures)
+
+pub status-above-spec : {M : Type 1} → statement M
+status-above-spec = tie.close (tie.spec is-set-requires returns)
