@@ -575,21 +575,16 @@ static uint64_t round_trips(uint32_t least, uint64_t count)
 	return sum;
 }
 
-static uint64_t replays(uint64_t count)
+/* The replay program: a history from standard input, its lines to standard output. */
+static int replay_input(void)
 {
-	uint8_t history[] = {
-		1, 246, 162, 5, 0, 2, 33, 208, 15, 2, 0, 232, 7, 3, 2, 16, 1, 0, 208, 15, 3, 0, 184, 23, 3, 2, 16, 9, 2,
-	};
-	uint8_t out[4096];
-	uint64_t sum = 0;
-	for (uint64_t i = 0; i < count; i++) {
-		history[4] = i % 128;
-		size_t n = replay(history, sizeof history, out);
-		for (size_t k = 0; k < n; k++)
-			sum = mix(sum, out[k]);
-		sum = mix(sum, 0);
-	}
-	return sum;
+	static uint8_t history[65537];
+	static uint8_t out[30 * 65536];
+	size_t len = fread(history, 1, sizeof history, stdin);
+	if (ferror(stdin))
+		return 1;
+	size_t n = replay(history, len, out);
+	return fwrite(out, 1, n, stdout) != n;
 }
 
 static uint64_t strftimes(uint64_t count)
@@ -624,8 +619,10 @@ static uint64_t strptimes(uint64_t count)
 	return sum;
 }
 
-int main(void)
+int main(int argc, char **argv)
 {
+	if (argc == 2 && !strcmp(argv[1], "replay"))
+		return replay_input();
 	static const struct {
 		const char *word;
 		uint64_t (*run)(uint64_t count);
@@ -635,7 +632,6 @@ int main(void)
 		{ "request", requests },
 		{ "label-write", label_writes },
 		{ "label-read", label_reads },
-		{ "replay", replays },
 		{ "strftime", strftimes },
 		{ "strptime", strptimes },
 	};

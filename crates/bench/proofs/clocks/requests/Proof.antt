@@ -1,22 +1,17 @@
 -- `bench::clocks::requests` is safe and ends.
-use mathlib.Core.Path.{_≡_}
-use Prim.Native.Nat.{_≤_, _<_, _+_, _-_}
-use native.Mathlib.Omega.{arith}
+use Prim.Native.Nat.{_≤_, _-_}
 use borrow.Author.Needs.{needs}
-use lib.ListN.{length}
 use Rattle.bench.proofs.clocks.requests.Statement.{statement}
 use Rattle.bench.proofs.clocks.requests.Tie as tie
-use Rattle.bench.proofs.clocks.begun.Reads as begun-reads
-use Rattle.bench.proofs.clocks.mix_outcome.Reads as mix-outcome-reads
-use Rattle.bench.proofs.clocks.request_of.Reads as request-of-reads
-use Rattle.bench.proofs.sum.mix_clock.Reads as mix-clock-reads
-use Rattle.request.proofs.request.adjust.Reads as adjust-reads
 
 abbrev Inv-loop : tie.InvT-loop
-Inv-loop count c₀ sum₀ i₀ c sum i = i ≤ count
+Inv-loop count values c₀ sum₀ i₀ c sum i = i ≤ count
 
 abbrev μ-loop : tie.MeasureT-loop
-μ-loop count c₀ sum₀ i₀ c sum i = count - i
+μ-loop count values c₀ sum₀ i₀ c sum i = count - i
+
+numbers-requires : tie.Need-numbers-requires Inv-loop μ-loop
+numbers-requires c κs = search needs
 
 begun-requires : tie.Need-begun-requires Inv-loop μ-loop
 begun-requires c κs = search needs
@@ -54,6 +49,7 @@ requests-spec =
     (tie.spec
     Inv-loop
     μ-loop
+    numbers-requires
     begun-requires
     loop-holds
     request-of-requires
