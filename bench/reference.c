@@ -248,6 +248,105 @@ static uint32_t map(int32_t v)
 	return (uint32_t)v << 1 ^ (uint32_t)(v >> 31);
 }
 
+/* Records. */
+
+#define RECORD_NUMBERS 13
+
+static int record_write(const struct clock *c, uint8_t *buf, size_t len, size_t *length)
+{
+	*length = 0;
+	if (!in_range(c))
+		return 1;
+	const uint32_t numbers[RECORD_NUMBERS] = {
+		1,
+		c->seconds,
+		c->micros,
+		map(c->phase),
+		map(c->offset),
+		map(c->frequency),
+		map(c->adjustment),
+		c->constant,
+		c->updated,
+		c->reftime,
+		c->maxerror,
+		c->esterror,
+		c->status,
+	};
+	uint8_t text[48], *p = text;
+	for (int k = 0; k < RECORD_NUMBERS; k++) {
+		uint32_t n = numbers[k];
+		for (; n >= 128; n >>= 7)
+			*p++ = n | 128;
+		*p++ = n;
+	}
+	size_t size = p - text;
+	if (len < size)
+		return 14;
+	memcpy(buf, text, size);
+	*length = size;
+	return 0;
+}
+
+static int plain_field(const uint8_t *bytes, size_t len, size_t *at, uint32_t least, uint32_t most, uint32_t *value)
+{
+	uint64_t n;
+	int refusal = number_read(bytes, len, at, &n);
+	if (refusal)
+		return refusal;
+	if (n < least || n > most)
+		return 12;
+	*value = n;
+	return 0;
+}
+
+static int signed_field(const uint8_t *bytes, size_t len, size_t *at, int32_t least, int32_t most, int32_t *value)
+{
+	uint64_t n;
+	int refusal = number_read(bytes, len, at, &n);
+	if (refusal)
+		return refusal;
+	int64_t v = unmap(n);
+	if (v < least || v > most)
+		return 12;
+	*value = v;
+	return 0;
+}
+
+static int fields_read(const uint8_t *bytes, size_t len, struct clock *c)
+{
+	size_t at = 0;
+	uint32_t version, constant, updated, status;
+	int refusal;
+	if ((refusal = plain_field(bytes, len, &at, 1, 1, &version))
+		|| (refusal = plain_field(bytes, len, &at, 0, LAST_SECOND, &c->seconds))
+		|| (refusal = plain_field(bytes, len, &at, 0, 999999, &c->micros))
+		|| (refusal = signed_field(bytes, len, &at, 1 - PHASE_US, PHASE_US - 1, &c->phase))
+		|| (refusal = signed_field(bytes, len, &at, -MAX_LEFT, MAX_LEFT, &c->offset))
+		|| (refusal = signed_field(bytes, len, &at, -MAX_FREQUENCY, MAX_FREQUENCY, &c->frequency))
+		|| (refusal = signed_field(bytes, len, &at, -168819712, 303037440, &c->adjustment))
+		|| (refusal = plain_field(bytes, len, &at, 0, 4, &constant))
+		|| (refusal = plain_field(bytes, len, &at, 0, 1, &updated))
+		|| (refusal = plain_field(bytes, len, &at, 0, updated ? LAST_SECOND : 0, &c->reftime))
+		|| (refusal = plain_field(bytes, len, &at, 0, MAX_ERROR, &c->maxerror))
+		|| (refusal = plain_field(bytes, len, &at, 0, MAX_ERROR, &c->esterror))
+		|| (refusal = plain_field(bytes, len, &at, 0, BAD, &status)))
+		return refusal;
+	if (at < len)
+		return 13;
+	c->constant = constant;
+	c->updated = updated;
+	c->status = status;
+	return 0;
+}
+
+static int record_read(const uint8_t *bytes, size_t len, struct clock *c)
+{
+	int refusal = fields_read(bytes, len, c);
+	if (refusal)
+		*c = fresh;
+	return refusal;
+}
+
 /* Labels. */
 
 static const char pairs[] =
@@ -560,6 +659,64 @@ static uint64_t label_reads(uint64_t count)
 	return sum;
 }
 
+static void go_on(struct clock *c, uint64_t k)
+{
+	struct request r = {
+		.mode = k,
+		.offset = unmap(97 * k),
+		.frequency = unmap(262147 * k),
+		.maxerror = 5 * k,
+		.esterror = 250000 * k,
+		.status = k % 5,
+		.constant = k % 5,
+	};
+	adjust(c, &r);
+	run_ticks(c, 100 + k);
+}
+
+static void fill_clocks(struct clock *clocks)
+{
+	struct clock c = fresh;
+	set(&c, 1700000000, 123456);
+	clocks[0] = c;
+	for (int k = 1; k < 64; k++) {
+		go_on(&c, k);
+		clocks[k] = c;
+	}
+}
+
+static uint64_t record_writes(uint64_t count)
+{
+	struct clock clocks[64];
+	uint8_t buf[46] = { 0 };
+	uint64_t sum = 0;
+	fill_clocks(clocks);
+	for (uint64_t i = 0; i < count; i++) {
+		size_t length, p = i % 23;
+		int refusal = record_write(&clocks[i % 64], buf, sizeof buf, &length);
+		sum = mix(mix(sum, refusal), length);
+		sum = mix(mix(sum, buf[p]), buf[p + 23]);
+	}
+	return sum;
+}
+
+static uint64_t record_reads(uint64_t count)
+{
+	struct clock clocks[64], c;
+	uint8_t bytes[64][64];
+	size_t lengths[64];
+	uint64_t sum = 0;
+	fill_clocks(clocks);
+	for (int k = 0; k < 64; k++)
+		record_write(&clocks[k], bytes[k], sizeof bytes[k], &lengths[k]);
+	for (uint64_t i = 0; i < count; i++) {
+		size_t k = i % 64;
+		int refusal = record_read(bytes[k], lengths[k], &c);
+		sum = mix_clock(mix(sum, refusal), &c);
+	}
+	return sum;
+}
+
 static uint64_t round_trips(uint32_t least, uint64_t count)
 {
 	uint8_t buf[8];
@@ -634,6 +791,8 @@ int main(void)
 		{ "request", requests },
 		{ "label-write", label_writes },
 		{ "label-read", label_reads },
+		{ "record-write", record_writes },
+		{ "record-read", record_reads },
 		{ "replay", replays },
 		{ "strftime", strftimes },
 		{ "strptime", strptimes },

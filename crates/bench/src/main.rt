@@ -3,6 +3,7 @@
 mod clocks;
 mod labels;
 mod numbers;
+mod records;
 mod replays;
 mod sum;
 
@@ -78,6 +79,12 @@ fn run(line: &[u8]) -> Answer {
     }
     if starts_with(line, b"label-read ") {
         return Answer::Checksum(labels::reads(count));
+    }
+    if starts_with(line, b"record-write ") {
+        return Answer::Checksum(records::writes(count));
+    }
+    if starts_with(line, b"record-read ") {
+        return Answer::Checksum(records::reads(count));
     }
     if starts_with(line, b"number-") {
         return Answer::Checksum(numbers::round_trips(least_number(line), count));

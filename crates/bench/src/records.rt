@@ -1,0 +1,108 @@
+// Records, written and read.
+ghost use mathlib.Core.Path.{_≡_};
+ghost use lib.ListN.{length};
+use crate::sum::mix;
+use crate::sum::mix_clock;
+use clock::setting::set;
+use clock::state::Clock;
+use clock::state::fresh;
+use clock::units::AskedMicros;
+use number::zigzag::unmap;
+use record::save::Saved;
+use request::request::Request;
+use request::request::adjust;
+use request::units::AskedFrequency;
+use request::units::AskedOffset;
+use ticks::run_ticks;
+
+fn wide(b: u8) -> u64 {
+    b as u64
+}
+
+// The clock after a request whose fields change with i, and after some ticks.
+fn later(c: Clock, i: u64) -> Clock {
+    let k = i % 64;
+    let offset = AskedOffset(unmap(97 * k));
+    let frequency = AskedFrequency(unmap(262147 * k));
+    let asked = Request {
+        mode: k,
+        offset: offset,
+        frequency: frequency,
+        maxerror: AskedMicros(5 * k),
+        esterror: AskedMicros(250000 * k),
+        status: k % 5,
+        constant: k % 5,
+    };
+    let o = adjust(c, asked);
+    let t = run_ticks(o.clock, 100 + k);
+    t.clock
+}
+
+// A clock that is set in 2023, and as it is after each of 63 requests.
+fn clocks() -> [Clock; 64]
+    ensures { λ r. ⌜ length r ≡ 64 ⌝ }
+{
+    let o = set(fresh(), 1700000000, AskedMicros(123456));
+    let mut c = o.clock;
+    let mut all = [c; 64];
+    let mut i: usize = 1;
+    while i < 64 {
+        c = later(c, i as u64);
+        all[i] = c;
+        i += 1;
+    }
+    all
+}
+
+fn mix_saved(sum: u64, s: Saved) -> u64 {
+    mix(mix(sum, s.refusal as u64), s.length as u64)
+}
+
+// Of each record two bytes are taken, at places that change with i and meet all of them: so all must have been written.
+pub(crate) fn writes(count: u64) -> u64 {
+    let all = clocks();
+    let mut buf = [0u8; 46];
+    let mut sum: u64 = 0;
+    let mut i: u64 = 0;
+    while i < count {
+        let k = (i % 64) as usize;
+        let saved = record::save::write(all[k], &mut buf);
+        let p = (i % 23) as usize;
+        sum = mix(mix(mix_saved(sum, saved), wide(buf[p])), wide(buf[p + 23]));
+        i += 1;
+    }
+    sum
+}
+
+// Writes 64 records, 64 bytes apart, and gives the length of each.
+fn fill_records(bytes: &mut [u8]) -> [usize; 64]
+    requires { ⌜ length (now bytes) ≡ 4096 ⌝ }
+    ensures { λ r. ⌜ (length (now (bytes .exit)) ≡ 4096) × (length r ≡ 64) ⌝ }
+{
+    let all = clocks();
+    let mut lengths = [0usize; 64];
+    let mut i: usize = 0;
+    while i < 64 {
+        let p = 64 * i;
+        let saved = record::save::write(all[i], &mut bytes[p..]);
+        lengths[i] = saved.length;
+        i += 1;
+    }
+    lengths
+}
+
+pub(crate) fn reads(count: u64) -> u64 {
+    let mut bytes = [0u8; 4096];
+    let lengths = fill_records(&mut bytes);
+    let mut sum: u64 = 0;
+    let mut i: u64 = 0;
+    while i < count {
+        let k = (i % 64) as usize;
+        let p = 64 * k;
+        let e = p + lengths[k] % 64;
+        let r = record::restore::read(&bytes[p..e]);
+        sum = mix_clock(mix(sum, r.refusal as u64), r.clock);
+        i += 1;
+    }
+    sum
+}
