@@ -248,6 +248,105 @@ static uint32_t map(int32_t v)
 	return (uint32_t)v << 1 ^ (uint32_t)(v >> 31);
 }
 
+/* Records. */
+
+#define RECORD_NUMBERS 13
+
+static int record_write(const struct clock *c, uint8_t *buf, size_t len, size_t *length)
+{
+	*length = 0;
+	if (!in_range(c))
+		return 1;
+	const uint32_t numbers[RECORD_NUMBERS] = {
+		1,
+		c->seconds,
+		c->micros,
+		map(c->phase),
+		map(c->offset),
+		map(c->frequency),
+		map(c->adjustment),
+		c->constant,
+		c->updated,
+		c->reftime,
+		c->maxerror,
+		c->esterror,
+		c->status,
+	};
+	uint8_t text[48], *p = text;
+	for (int k = 0; k < RECORD_NUMBERS; k++) {
+		uint32_t n = numbers[k];
+		for (; n >= 128; n >>= 7)
+			*p++ = n | 128;
+		*p++ = n;
+	}
+	size_t size = p - text;
+	if (len < size)
+		return 14;
+	memcpy(buf, text, size);
+	*length = size;
+	return 0;
+}
+
+static int plain_field(const uint8_t *bytes, size_t len, size_t *at, uint32_t least, uint32_t most, uint32_t *value)
+{
+	uint64_t n;
+	int refusal = number_read(bytes, len, at, &n);
+	if (refusal)
+		return refusal;
+	if (n < least || n > most)
+		return 12;
+	*value = n;
+	return 0;
+}
+
+static int signed_field(const uint8_t *bytes, size_t len, size_t *at, int32_t least, int32_t most, int32_t *value)
+{
+	uint64_t n;
+	int refusal = number_read(bytes, len, at, &n);
+	if (refusal)
+		return refusal;
+	int64_t v = unmap(n);
+	if (v < least || v > most)
+		return 12;
+	*value = v;
+	return 0;
+}
+
+static int fields_read(const uint8_t *bytes, size_t len, struct clock *c)
+{
+	size_t at = 0;
+	uint32_t version, constant, updated, status;
+	int refusal;
+	if ((refusal = plain_field(bytes, len, &at, 1, 1, &version))
+		|| (refusal = plain_field(bytes, len, &at, 0, LAST_SECOND, &c->seconds))
+		|| (refusal = plain_field(bytes, len, &at, 0, 999999, &c->micros))
+		|| (refusal = signed_field(bytes, len, &at, 1 - PHASE_US, PHASE_US - 1, &c->phase))
+		|| (refusal = signed_field(bytes, len, &at, -MAX_LEFT, MAX_LEFT, &c->offset))
+		|| (refusal = signed_field(bytes, len, &at, -MAX_FREQUENCY, MAX_FREQUENCY, &c->frequency))
+		|| (refusal = signed_field(bytes, len, &at, -168819712, 303037440, &c->adjustment))
+		|| (refusal = plain_field(bytes, len, &at, 0, 4, &constant))
+		|| (refusal = plain_field(bytes, len, &at, 0, 1, &updated))
+		|| (refusal = plain_field(bytes, len, &at, 0, updated ? LAST_SECOND : 0, &c->reftime))
+		|| (refusal = plain_field(bytes, len, &at, 0, MAX_ERROR, &c->maxerror))
+		|| (refusal = plain_field(bytes, len, &at, 0, MAX_ERROR, &c->esterror))
+		|| (refusal = plain_field(bytes, len, &at, 0, BAD, &status)))
+		return refusal;
+	if (at < len)
+		return 13;
+	c->constant = constant;
+	c->updated = updated;
+	c->status = status;
+	return 0;
+}
+
+static int record_read(const uint8_t *bytes, size_t len, struct clock *c)
+{
+	int refusal = fields_read(bytes, len, c);
+	if (refusal)
+		*c = fresh;
+	return refusal;
+}
+
 /* Labels. */
 
 static const char pairs[] =
@@ -459,23 +558,43 @@ static uint64_t mix_clock(uint64_t sum, const struct clock *c)
 	return mix(mix(sum, c->esterror), c->status);
 }
 
-/* A clock with work to do: an offset of 1,000 us to pay off, a frequency, and time constant 2. */
-static struct clock begun(void)
+/* What the operations work on, taken from memory as the program runs: so the compiler cannot know what is in range. */
+static void fill_numbers(uint64_t *values)
 {
-	struct clock c = fresh;
-	c.seconds = c.reftime = 86000;
-	c.offset = 1000 << 14;
-	c.frequency = 123456;
-	c.constant = 2;
-	c.updated = 1;
-	c.status = OK;
+	for (uint64_t i = 0; i < 64; i++)
+		values[i] = i;
+}
+
+static uint32_t times(const uint64_t *values, uint64_t i, uint32_t factor)
+{
+	return values[i % 64] % 64 * factor % (1 << 30);
+}
+
+/* A clock with work to do: an offset of 1,000 us to pay off, a frequency, and time constant 2. */
+static struct clock begun(const uint64_t *values)
+{
+	struct clock c = {
+		.seconds = times(values, 43, 2000),
+		.micros = times(values, 1, 0),
+		.phase = times(values, 1, 0),
+		.offset = times(values, 10, 1638400),
+		.frequency = times(values, 12, 10288),
+		.adjustment = times(values, 40, 1677721),
+		.constant = values[2],
+		.updated = values[1],
+		.reftime = times(values, 43, 2000),
+		.maxerror = times(values, 16, 1000000),
+		.esterror = times(values, 16, 1000000),
+		.status = values[0],
+	};
 	return c;
 }
 
 static uint64_t ticks(uint64_t count)
 {
-	struct clock c = begun();
-	uint64_t sum = 0;
+	uint64_t values[64], sum = 0;
+	fill_numbers(values);
+	struct clock c = begun(values);
 	for (uint64_t i = 0; i < count; i++) {
 		int refusal = tick(&c);
 		sum = mix(mix(sum, refusal), c.micros);
@@ -485,8 +604,9 @@ static uint64_t ticks(uint64_t count)
 
 static uint64_t seconds(uint64_t count)
 {
-	struct clock c = begun();
-	uint64_t sum = 0;
+	uint64_t values[64], sum = 0;
+	fill_numbers(values);
+	struct clock c = begun(values);
 	for (uint64_t i = 0; i < count; i++) {
 		int refusal = run_ticks(&c, 256);
 		sum = mix(mix(sum, refusal), c.micros);
@@ -494,14 +614,11 @@ static uint64_t seconds(uint64_t count)
 	return mix_clock(sum, &c);
 }
 
-static uint64_t requests(uint64_t count)
+static uint64_t request_some(struct clock *c, uint64_t count)
 {
-	/* In memory, so that the compiler cannot know that what is asked for is in range. */
-	uint64_t values[64];
-	struct clock c = begun();
-	uint64_t sum = 0;
-	for (uint64_t i = 0; i < 64; i++)
-		values[i] = i;
+	uint64_t values[64], sum = 0;
+	fill_numbers(values);
+	*c = begun(values);
 	for (uint64_t i = 0; i < count; i++) {
 		uint64_t k = i / 64;
 		struct request r = {
@@ -513,9 +630,17 @@ static uint64_t requests(uint64_t count)
 			.status = values[k % 4],
 			.constant = values[k % 5],
 		};
-		int refusal = adjust(&c, &r);
-		sum = mix(mix(sum, refusal), c.status);
+		int refusal = adjust(c, &r);
+		sum = mix(mix(sum, refusal), c->status);
+		c->seconds += 16;
 	}
+	return sum;
+}
+
+static uint64_t requests(uint64_t count)
+{
+	struct clock c;
+	uint64_t sum = request_some(&c, count);
 	return mix_clock(sum, &c);
 }
 
@@ -557,6 +682,49 @@ static uint64_t label_reads(uint64_t count)
 		sum = mix(mix(sum, refusal), s);
 		if (sixty)
 			sum = mix(sum, 1);
+	}
+	return sum;
+}
+
+static void fill_clocks(struct clock *clocks)
+{
+	uint64_t values[64];
+	fill_numbers(values);
+	for (int k = 0; k < 64; k++) {
+		request_some(&clocks[k], 97 * k);
+		clocks[k].micros = times(values, k, 15000);
+		clocks[k].phase = times(values, k, 4000000);
+	}
+}
+
+static uint64_t record_writes(uint64_t count)
+{
+	struct clock clocks[64];
+	uint8_t buf[46] = { 0 };
+	uint64_t sum = 0;
+	fill_clocks(clocks);
+	for (uint64_t i = 0; i < count; i++) {
+		size_t length, p = i % 23;
+		int refusal = record_write(&clocks[i % 64], buf, sizeof buf, &length);
+		sum = mix(mix(sum, refusal), length);
+		sum = mix(mix(sum, buf[p]), buf[p + 23]);
+	}
+	return sum;
+}
+
+static uint64_t record_reads(uint64_t count)
+{
+	struct clock clocks[64], c;
+	uint8_t bytes[64][64];
+	size_t lengths[64];
+	uint64_t sum = 0;
+	fill_clocks(clocks);
+	for (int k = 0; k < 64; k++)
+		record_write(&clocks[k], bytes[k], sizeof bytes[k], &lengths[k]);
+	for (uint64_t i = 0; i < count; i++) {
+		size_t k = i % 64;
+		int refusal = record_read(bytes[k], lengths[k], &c);
+		sum = mix_clock(mix(sum, refusal), &c);
 	}
 	return sum;
 }
@@ -632,6 +800,8 @@ int main(int argc, char **argv)
 		{ "request", requests },
 		{ "label-write", label_writes },
 		{ "label-read", label_reads },
+		{ "record-write", record_writes },
+		{ "record-read", record_reads },
 		{ "strftime", strftimes },
 		{ "strptime", strptimes },
 	};

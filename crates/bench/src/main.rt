@@ -3,7 +3,9 @@
 mod clocks;
 mod labels;
 mod numbers;
+mod records;
 mod sum;
+mod values;
 
 ghost use Prim.Native.Nat.{_≤_};
 ghost use lib.ListN.{length};
@@ -64,10 +66,10 @@ enum Answer {
 fn run(line: &[u8]) -> Answer {
     let count = count_of(line);
     if starts_with(line, b"tick ") {
-        return Answer::Checksum(clocks::ticks(count));
+        return Answer::Checksum(clocks::ticks(count, 1));
     }
     if starts_with(line, b"second ") {
-        return Answer::Checksum(clocks::seconds(count));
+        return Answer::Checksum(clocks::ticks(count, 256));
     }
     if starts_with(line, b"request ") {
         return Answer::Checksum(clocks::requests(count));
@@ -77,6 +79,12 @@ fn run(line: &[u8]) -> Answer {
     }
     if starts_with(line, b"label-read ") {
         return Answer::Checksum(labels::reads(count));
+    }
+    if starts_with(line, b"record-write ") {
+        return Answer::Checksum(records::writes(count));
+    }
+    if starts_with(line, b"record-read ") {
+        return Answer::Checksum(records::reads(count));
     }
     if starts_with(line, b"number-") {
         return Answer::Checksum(numbers::round_trips(least_number(line), count));

@@ -51,9 +51,15 @@ offsetOutside r = selectsOffset r && not (within greatestOffset (r .offset .0))
 abbrev pub frequencyOutside : Request → Bool
 frequencyOutside r = selectsFrequency r && not (strictlyWithin greatestFrequency (r .frequency .0))
 
--- 7 "a selected error above 16,000,000"
+-- 7 "a selected error above 16,000,000": either of the two
+abbrev pub maxerrorAbove : Request → Bool
+maxerrorAbove r = selectsMaxerror r && ltb greatestError (r .maxerror .0)
+
+abbrev pub esterrorAbove : Request → Bool
+esterrorAbove r = selectsEsterror r && ltb greatestError (r .esterror .0)
+
 abbrev pub errorAbove : Request → Bool
-errorAbove r = (selectsMaxerror r && ltb greatestError (r .maxerror .0)) || (selectsEsterror r && ltb greatestError (r .esterror .0))
+errorAbove r = maxerrorAbove r || esterrorAbove r
 
 -- 8 "selected status above 4"
 abbrev pub statusAbove : Request → Bool

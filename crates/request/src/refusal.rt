@@ -1,6 +1,6 @@
 ghost use mathlib.Core.Path.{_≡_};
 ghost use Prim.Native.Nat.{_<_};
-ghost use Rattle.request.specs.Request.{bitSet, offsetOutside, frequencyOutside, errorAbove, statusAbove, constantAbove, requestRefusal};
+ghost use Rattle.request.specs.Request.{bitSet, offsetOutside, frequencyOutside, maxerrorAbove, esterrorAbove, statusAbove, constantAbove, requestRefusal};
 use crate::request::ADJ_ESTERROR;
 use crate::request::ADJ_FREQUENCY;
 use crate::request::ADJ_MAXERROR;
@@ -31,11 +31,16 @@ fn frequency_outside(r: Request) -> bool
     is_set(r.mode, ADJ_FREQUENCY) & !((-1677721600 < r.frequency.0) & (r.frequency.0 < 1677721600))
 }
 
-fn error_above(r: Request) -> bool
-    ensures { λ b. ⌜ b ≡ errorAbove r ⌝ }
+fn maxerror_above(r: Request) -> bool
+    ensures { λ b. ⌜ b ≡ maxerrorAbove r ⌝ }
 {
-    (is_set(r.mode, ADJ_MAXERROR) & ((MAX_ERROR as u64) < r.maxerror.0))
-        | (is_set(r.mode, ADJ_ESTERROR) & ((MAX_ERROR as u64) < r.esterror.0))
+    is_set(r.mode, ADJ_MAXERROR) & ((MAX_ERROR as u64) < r.maxerror.0)
+}
+
+fn esterror_above(r: Request) -> bool
+    ensures { λ b. ⌜ b ≡ esterrorAbove r ⌝ }
+{
+    is_set(r.mode, ADJ_ESTERROR) & ((MAX_ERROR as u64) < r.esterror.0)
 }
 
 fn status_above(r: Request) -> bool
@@ -66,7 +71,10 @@ pub(crate) fn refusal_of(c: Clock, r: Request) -> u8
     if frequency_outside(r) {
         return 6;
     }
-    if error_above(r) {
+    if maxerror_above(r) {
+        return 7;
+    }
+    if esterror_above(r) {
         return 7;
     }
     if status_above(r) {

@@ -4,7 +4,7 @@ use borrow.Author.Tests.{not-true, not-false, lt-ltb, le-ltb}
 use mathlib.Core.Bool.{true, false}
 use mathlib.Core.Path.{_≡_, sym, _∙_}
 use Rattle.clock.specs.State.{inRange}
-use Rattle.request.specs.Request.{modeAbove, offsetOutside, frequencyOutside, errorAbove, statusAbove, constantAbove, requestRefusal}
+use Rattle.request.specs.Request.{modeAbove, offsetOutside, frequencyOutside, maxerrorAbove, esterrorAbove, statusAbove, constantAbove, requestRefusal}
 use Rattle.request.proofs.refusal.refusal_of.Statement.{statement}
 use Rattle.request.proofs.refusal.refusal_of.Tie as tie
 
@@ -20,14 +20,17 @@ offset-fine c = sym (c .before .offset-outside .ensures) ∙ c .if3 .left
 frequency-fine : (c : tie.Else4) → frequencyOutside (c .before .before .before .before .before .before .before .before .args .r) ≡ false
 frequency-fine c = sym (c .before .frequency-outside .ensures) ∙ c .if4 .left
 
-errors-fine : (c : tie.Else5) → errorAbove (c .before .before .before .before .before .before .before .before .before .before .args .r) ≡ false
-errors-fine c = sym (c .before .error-above .ensures) ∙ c .if5 .left
+maxerror-fine : (c : tie.Else5) → maxerrorAbove (c .before .before .before .before .before .before .before .before .before .before .args .r) ≡ false
+maxerror-fine c = sym (c .before .maxerror-above .ensures) ∙ c .if5 .left
 
-status-fine : (c : tie.Else6) → statusAbove (c .before .before .before .before .before .before .before .before .before .before .before .before .args .r) ≡ false
-status-fine c = sym (c .before .status-above .ensures) ∙ c .if6 .left
+esterror-fine : (c : tie.Else6) → esterrorAbove (c .before .before .before .before .before .before .before .before .before .before .before .before .args .r) ≡ false
+esterror-fine c = sym (c .before .esterror-above .ensures) ∙ c .if6 .left
 
-constant-fine : (c : tie.Else7) → constantAbove (c .before .before .before .before .before .before .before .before .before .before .before .before .before .before .args .r) ≡ false
-constant-fine c = sym (c .before .constant-above .ensures) ∙ c .if7 .left
+status-fine : (c : tie.Else7) → statusAbove (c .before .before .before .before .before .before .before .before .before .before .before .before .before .before .args .r) ≡ false
+status-fine c = sym (c .before .status-above .ensures) ∙ c .if7 .left
+
+constant-fine : (c : tie.Else8) → constantAbove (c .before .before .before .before .before .before .before .before .before .before .before .before .before .before .before .before .args .r) ≡ false
+constant-fine c = sym (c .before .constant-above .ensures) ∙ c .if8 .left
 
 in-range-requires : tie.Need-in-range-requires
 in-range-requires c κs = search needs
@@ -60,36 +63,45 @@ returns-4 c =
     let t = sym (c .before .frequency-outside .ensures) ∙ c .if4 .taken in
     simp (inside (c .before .before .before .before .before .before), mode-fine (c .before .before .before .before), offset-fine (c .before .before), t)
 
-error-above-requires : tie.Need-error-above-requires
-error-above-requires c κs = search needs
+maxerror-above-requires : tie.Need-maxerror-above-requires
+maxerror-above-requires c κs = search needs
 
 returns-5 : tie.Need-returns-5
 unfolding requestRefusal
 returns-5 c =
-    let t = sym (c .before .error-above .ensures) ∙ c .if5 .taken in
+    let t = sym (c .before .maxerror-above .ensures) ∙ c .if5 .taken in
     simp (inside (c .before .before .before .before .before .before .before .before), mode-fine (c .before .before .before .before .before .before), offset-fine (c .before .before .before .before), frequency-fine (c .before .before), t)
 
-status-above-requires : tie.Need-status-above-requires
-status-above-requires c κs = search needs
+esterror-above-requires : tie.Need-esterror-above-requires
+esterror-above-requires c κs = search needs
 
 returns-6 : tie.Need-returns-6
 unfolding requestRefusal
 returns-6 c =
-    let t = sym (c .before .status-above .ensures) ∙ c .if6 .taken in
-    simp (inside (c .before .before .before .before .before .before .before .before .before .before), mode-fine (c .before .before .before .before .before .before .before .before), offset-fine (c .before .before .before .before .before .before), frequency-fine (c .before .before .before .before), errors-fine (c .before .before), t)
+    let t = sym (c .before .esterror-above .ensures) ∙ c .if6 .taken in
+    simp (inside (c .before .before .before .before .before .before .before .before .before .before), mode-fine (c .before .before .before .before .before .before .before .before), offset-fine (c .before .before .before .before .before .before), frequency-fine (c .before .before .before .before), maxerror-fine (c .before .before), t)
 
-constant-above-requires : tie.Need-constant-above-requires
-constant-above-requires c κs = search needs
+status-above-requires : tie.Need-status-above-requires
+status-above-requires c κs = search needs
 
 returns-7 : tie.Need-returns-7
 unfolding requestRefusal
 returns-7 c =
-    let t = sym (c .before .constant-above .ensures) ∙ c .if7 .taken in
-    simp (inside (c .before .before .before .before .before .before .before .before .before .before .before .before), mode-fine (c .before .before .before .before .before .before .before .before .before .before), offset-fine (c .before .before .before .before .before .before .before .before), frequency-fine (c .before .before .before .before .before .before), errors-fine (c .before .before .before .before), status-fine (c .before .before), t)
+    let t = sym (c .before .status-above .ensures) ∙ c .if7 .taken in
+    simp (inside (c .before .before .before .before .before .before .before .before .before .before .before .before), mode-fine (c .before .before .before .before .before .before .before .before .before .before), offset-fine (c .before .before .before .before .before .before .before .before), frequency-fine (c .before .before .before .before .before .before), maxerror-fine (c .before .before .before .before), esterror-fine (c .before .before), t)
+
+constant-above-requires : tie.Need-constant-above-requires
+constant-above-requires c κs = search needs
 
 returns-8 : tie.Need-returns-8
 unfolding requestRefusal
-returns-8 c = simp (inside (c .before .before .before .before .before .before .before .before .before .before .before .before), mode-fine (c .before .before .before .before .before .before .before .before .before .before), offset-fine (c .before .before .before .before .before .before .before .before), frequency-fine (c .before .before .before .before .before .before), errors-fine (c .before .before .before .before), status-fine (c .before .before), constant-fine c)
+returns-8 c =
+    let t = sym (c .before .constant-above .ensures) ∙ c .if8 .taken in
+    simp (inside (c .before .before .before .before .before .before .before .before .before .before .before .before .before .before), mode-fine (c .before .before .before .before .before .before .before .before .before .before .before .before), offset-fine (c .before .before .before .before .before .before .before .before .before .before), frequency-fine (c .before .before .before .before .before .before .before .before), maxerror-fine (c .before .before .before .before .before .before), esterror-fine (c .before .before .before .before), status-fine (c .before .before), t)
+
+returns-9 : tie.Need-returns-9
+unfolding requestRefusal
+returns-9 c = simp (inside (c .before .before .before .before .before .before .before .before .before .before .before .before .before .before), mode-fine (c .before .before .before .before .before .before .before .before .before .before .before .before), offset-fine (c .before .before .before .before .before .before .before .before .before .before), frequency-fine (c .before .before .before .before .before .before .before .before), maxerror-fine (c .before .before .before .before .before .before), esterror-fine (c .before .before .before .before), status-fine (c .before .before), constant-fine c)
 
 pub refusal-of-spec : {M : Type 1} → statement M
 refusal-of-spec =
@@ -102,10 +114,12 @@ refusal-of-spec =
     returns-3
     frequency-outside-requires
     returns-4
-    error-above-requires
+    maxerror-above-requires
     returns-5
-    status-above-requires
+    esterror-above-requires
     returns-6
-    constant-above-requires
+    status-above-requires
     returns-7
-    returns-8)
+    constant-above-requires
+    returns-8
+    returns-9)
