@@ -565,27 +565,27 @@ static void fill_numbers(uint64_t *values)
 		values[i] = i;
 }
 
-static uint32_t times(const uint64_t *values, uint64_t i, uint32_t factor)
+static uint32_t small(const uint64_t *values, uint64_t i)
 {
-	return values[i % 64] % 64 * factor % (1 << 30);
+	return values[i % 64] % 64;
 }
 
 /* A clock with work to do: an offset of 1,000 us to pay off, a frequency, and time constant 2. */
 static struct clock begun(const uint64_t *values)
 {
 	struct clock c = {
-		.seconds = times(values, 43, 2000),
-		.micros = times(values, 1, 0),
-		.phase = times(values, 1, 0),
-		.offset = times(values, 10, 1638400),
-		.frequency = times(values, 12, 10288),
-		.adjustment = times(values, 40, 1677721),
-		.constant = values[2],
-		.updated = values[1],
-		.reftime = times(values, 43, 2000),
-		.maxerror = times(values, 16, 1000000),
-		.esterror = times(values, 16, 1000000),
-		.status = values[0],
+		.seconds = small(values, 43) * 2000,
+		.micros = small(values, 0),
+		.phase = small(values, 0),
+		.offset = small(values, 10) * 1638400,
+		.frequency = small(values, 12) * 10288,
+		.adjustment = small(values, 40) * 1677721,
+		.constant = small(values, 2),
+		.updated = small(values, 1),
+		.reftime = small(values, 43) * 2000,
+		.maxerror = small(values, 16) * 1000000,
+		.esterror = small(values, 16) * 1000000,
+		.status = small(values, 0),
 	};
 	return c;
 }
@@ -692,8 +692,8 @@ static void fill_clocks(struct clock *clocks)
 	fill_numbers(values);
 	for (int k = 0; k < 64; k++) {
 		request_some(&clocks[k], 97 * k);
-		clocks[k].micros = times(values, k, 15000);
-		clocks[k].phase = times(values, k, 4000000);
+		clocks[k].micros = small(values, k) * 15000;
+		clocks[k].phase = small(values, k) * 4000000;
 	}
 }
 

@@ -72,21 +72,22 @@ pub(crate) struct Requested {
     pub(crate) clock: Clock,
 }
 
-pub(crate) fn requested(count: u64) -> Requested {
+pub(crate) fn after_requests(count: u64) -> Requested {
     let values = numbers();
     let mut c = begun(&values);
     let mut sum: u64 = 0;
     let mut i: u64 = 0;
     while i < count {
-        let o = adjust(c, request_of(&values, i));
+        let asked = request_of(&values, i);
+        i += 1;
+        let o = adjust(c, asked);
         sum = mix_outcome(sum, o);
         c = later(o.clock);
-        i += 1;
     }
     Requested { sum: sum, clock: c }
 }
 
 pub(crate) fn requests(count: u64) -> u64 {
-    let r = requested(count);
+    let r = after_requests(count);
     mix_clock(r.sum, r.clock)
 }

@@ -1,12 +1,11 @@
 // Records, written and read.
 ghost use mathlib.Core.Path.{_≡_};
 ghost use lib.ListN.{length};
-use crate::clocks::requested;
+use crate::clocks::after_requests;
 use crate::sum::mix;
 use crate::sum::mix_clock;
 use crate::values::numbers;
-use crate::values::signed_times;
-use crate::values::times;
+use crate::values::small;
 use clock::state::Clock;
 use clock::state::fresh;
 use clock::units::Micros;
@@ -19,8 +18,8 @@ fn wide(b: u8) -> u64 {
 
 // The clock at another time of its second.
 fn moved(c: Clock, values: &[u64; 64], k: u64) -> Clock {
-    let micros = Micros(times(values, k, 15000));
-    let phase = PhaseUnits(signed_times(values, k, 4000000));
+    let micros = Micros(small(values, k) * 15000);
+    let phase = PhaseUnits((small(values, k) * 4000000) as i32);
     Clock {
         micros: micros,
         phase: phase,
@@ -37,7 +36,7 @@ fn clocks() -> [Clock; 64]
     let mut i: usize = 0;
     while i < 64 {
         let k = i as u64;
-        let r = requested(97 * k);
+        let r = after_requests(97 * k);
         all[i] = moved(r.clock, &values, k);
         i += 1;
     }

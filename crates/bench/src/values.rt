@@ -1,4 +1,5 @@
 // What the operations work on, taken from memory as the program runs: so the compiler cannot know what is in range.
+ghost use Prim.Native.Nat.{_<_};
 use clock::state::Clock;
 use clock::units::Frequency;
 use clock::units::Micros;
@@ -20,13 +21,10 @@ pub(crate) fn number_at(values: &[u64; 64], i: u64) -> u64 {
     values[(i % 64) as usize]
 }
 
-// So many times the i-th number; of a product of 2^30 or more, its rest.
-pub(crate) fn times(values: &[u64; 64], i: u64, factor: u32) -> u32 {
-    (number_at(values, i) % 64 * factor as u64 % 1073741824) as u32
-}
-
-pub(crate) fn signed_times(values: &[u64; 64], i: u64, factor: u32) -> i32 {
-    times(values, i, factor) as i32
+pub(crate) fn small(values: &[u64; 64], i: u64) -> u32
+    ensures { λ r. ⌜ r < 64 ⌝ }
+{
+    (number_at(values, i) % 64) as u32
 }
 
 fn byte_at(values: &[u64; 64], i: u64) -> u8 {
@@ -35,14 +33,15 @@ fn byte_at(values: &[u64; 64], i: u64) -> u8 {
 
 // A clock with work to do: an offset of 1,000 us to pay off, a frequency, and time constant 2.
 pub(crate) fn begun(values: &[u64; 64]) -> Clock {
-    let micros = Micros(times(values, 1, 0));
-    let phase = PhaseUnits(signed_times(values, 1, 0));
-    let offset = OffsetUnits(signed_times(values, 10, 1638400));
-    let frequency = Frequency(signed_times(values, 12, 10288));
-    let adjustment = PhaseUnits(signed_times(values, 40, 1677721));
-    let maxerror = Micros(times(values, 16, 1000000));
+    let micros = Micros(small(values, 0));
+    let phase = PhaseUnits(small(values, 0) as i32);
+    let offset = OffsetUnits((small(values, 10) * 1638400) as i32);
+    let frequency = Frequency((small(values, 12) * 10288) as i32);
+    let adjustment = PhaseUnits((small(values, 40) * 1677721) as i32);
+    let maxerror = Micros(small(values, 16) * 1000000);
+    let seconds = small(values, 43) * 2000;
     Clock {
-        seconds: times(values, 43, 2000),
+        seconds: seconds,
         micros: micros,
         phase: phase,
         offset: offset,
@@ -50,7 +49,7 @@ pub(crate) fn begun(values: &[u64; 64]) -> Clock {
         adjustment: adjustment,
         constant: byte_at(values, 2),
         updated: byte_at(values, 1),
-        reftime: times(values, 43, 2000),
+        reftime: seconds,
         maxerror: maxerror,
         esterror: maxerror,
         status: byte_at(values, 0),

@@ -1,21 +1,17 @@
 -- `bench::clocks::ticks` is safe and ends.
-use mathlib.Core.Path.{_≡_}
-use Prim.Native.Nat.{_≤_, _<_, _+_, _-_}
-use native.Mathlib.Omega.{arith}
+use Prim.Native.Nat.{_≤_, _-_}
 use borrow.Author.Needs.{needs}
-use lib.ListN.{length}
 use Rattle.bench.proofs.clocks.ticks.Statement.{statement}
 use Rattle.bench.proofs.clocks.ticks.Tie as tie
-use Rattle.bench.proofs.clocks.begun.Reads as begun-reads
-use Rattle.bench.proofs.sum.mix.Reads as mix-reads
-use Rattle.bench.proofs.sum.mix_clock.Reads as mix-clock-reads
-use Rattle.clock.proofs.tick.tick.Reads as tick-reads
 
 abbrev Inv-loop : tie.InvT-loop
-Inv-loop count c₀ sum₀ i₀ c sum i = i ≤ count
+Inv-loop count n c₀ sum₀ i₀ c sum i = i ≤ count
 
 abbrev μ-loop : tie.MeasureT-loop
-μ-loop count c₀ sum₀ i₀ c sum i = count - i
+μ-loop count n c₀ sum₀ i₀ c sum i = count - i
+
+numbers-requires : tie.Need-numbers-requires Inv-loop μ-loop
+numbers-requires c κs = search needs
 
 begun-requires : tie.Need-begun-requires Inv-loop μ-loop
 begun-requires c κs = search needs
@@ -23,8 +19,8 @@ begun-requires c κs = search needs
 loop-holds : tie.Need-loop-holds Inv-loop μ-loop
 loop-holds c = search needs
 
-tick-requires : tie.Need-tick-requires Inv-loop μ-loop
-tick-requires c κs = search needs
+ticked-requires : tie.Need-ticked-requires Inv-loop μ-loop
+ticked-requires c κs = search needs
 
 cast-mix : tie.Need-cast-mix Inv-loop μ-loop
 cast-mix c = search needs
@@ -59,9 +55,10 @@ ticks-spec =
     (tie.spec
     Inv-loop
     μ-loop
+    numbers-requires
     begun-requires
     loop-holds
-    tick-requires
+    ticked-requires
     cast-mix
     mix-requires
     cast-mix-2

@@ -1,32 +1,34 @@
 -- `bench::records::clocks` is safe and ends.
 use mathlib.Core.Path.{_≡_}
-use Prim.Native.Nat.{_≤_, _<_, _+_, _-_}
-use native.Mathlib.Omega.{arith}
+use Prim.Native.Nat.{_≤_, _-_}
 use borrow.Author.Needs.{needs}
 use lib.ListN.{length}
 use Rattle.bench.proofs.records.clocks.Statement.{statement}
 use Rattle.bench.proofs.records.clocks.Tie as tie
-use Rattle.bench.proofs.records.later.Reads as later-reads
-use Rattle.clock.proofs.setting.set.Reads as set-reads
-use Rattle.clock.proofs.state.fresh.Reads as fresh-reads
 
 abbrev Inv-loop : tie.InvT-loop
-Inv-loop c₀ all₀ i₀ c all i = (i ≤ 64) × (length all ≡ 64)
+Inv-loop values all₀ i₀ all i = (i ≤ 64) × (length all ≡ 64)
 
 abbrev μ-loop : tie.MeasureT-loop
-μ-loop c₀ all₀ i₀ c all i = 64 - i
+μ-loop values all₀ i₀ all i = 64 - i
+
+numbers-requires : tie.Need-numbers-requires Inv-loop μ-loop
+numbers-requires c κs = search needs
 
 fresh-requires : tie.Need-fresh-requires Inv-loop μ-loop
 fresh-requires c κs = search needs
 
-set-requires : tie.Need-set-requires Inv-loop μ-loop
-set-requires c κs = search needs
-
 loop-holds : tie.Need-loop-holds Inv-loop μ-loop
 loop-holds c = search needs
 
-later-requires : tie.Need-later-requires Inv-loop μ-loop
-later-requires c κs = search needs
+mul-after-requests : tie.Need-mul-after-requests Inv-loop μ-loop
+mul-after-requests c = search needs
+
+after-requests-requires : tie.Need-after-requests-requires Inv-loop μ-loop
+after-requests-requires c κs = search needs
+
+moved-requires : tie.Need-moved-requires Inv-loop μ-loop
+moved-requires c κs = search needs
 
 mul-all : tie.Need-mul-all Inv-loop μ-loop
 mul-all c = search needs
@@ -52,10 +54,12 @@ clocks-spec =
     (tie.spec
     Inv-loop
     μ-loop
+    numbers-requires
     fresh-requires
-    set-requires
     loop-holds
-    later-requires
+    mul-after-requests
+    after-requests-requires
+    moved-requires
     mul-all
     array-set-from-all
     add-i

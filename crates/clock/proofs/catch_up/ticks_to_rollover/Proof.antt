@@ -58,8 +58,8 @@ returns-2 c =
     let a = t .before .before in
     let L = looped a .loop in
     c .caught-up .ensures
-      ∙ ap (λ (o : Outcome). caughtUp o (L .left)) (c .before .overflow .ensures)
-      ∙ sym (L .inv .1 ∙ one-rolls _ (L .left) (a .before .before .before .before .before .before .loop-test .taken) (rw (a .advance-of .ensures) at (le-leb _ _ (t .if2 .taken))))
+    ∙ ap (λ (o : Outcome). caughtUp o (L .left)) (c .before .overflow .ensures)
+    ∙ sym (L .inv .1 ∙ one-rolls _ (L .left) (a .before .before .before .before .before .before .loop-test .taken) (rw (a .advance-of .ensures) at (le-leb _ _ (t .if2 .taken))))
 
 sub-left : tie.Need-sub-left Inv-loop μ-loop
 sub-left c = search needs

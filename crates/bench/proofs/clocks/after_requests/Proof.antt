@@ -1,8 +1,8 @@
--- `bench::clocks::requests` is safe and ends.
+-- `bench::clocks::after_requests` is safe and ends.
 use Prim.Native.Nat.{_≤_, _-_}
 use borrow.Author.Needs.{needs}
-use Rattle.bench.proofs.clocks.requests.Statement.{statement}
-use Rattle.bench.proofs.clocks.requests.Tie as tie
+use Rattle.bench.proofs.clocks.after_requests.Statement.{statement}
+use Rattle.bench.proofs.clocks.after_requests.Tie as tie
 
 abbrev Inv-loop : tie.InvT-loop
 Inv-loop count values c₀ sum₀ i₀ c sum i = i ≤ count
@@ -22,14 +22,17 @@ loop-holds c = search needs
 request-of-requires : tie.Need-request-of-requires Inv-loop μ-loop
 request-of-requires c κs = search needs
 
+add-i : tie.Need-add-i Inv-loop μ-loop
+add-i c = search needs
+
 adjust-requires : tie.Need-adjust-requires Inv-loop μ-loop
 adjust-requires c κs = search needs
 
 mix-outcome-requires : tie.Need-mix-outcome-requires Inv-loop μ-loop
 mix-outcome-requires c κs = search needs
 
-add-i : tie.Need-add-i Inv-loop μ-loop
-add-i c = search needs
+later-requires : tie.Need-later-requires Inv-loop μ-loop
+later-requires c κs = search needs
 
 loop-less : tie.Need-loop-less Inv-loop μ-loop
 loop-less c = search needs
@@ -37,14 +40,11 @@ loop-less c = search needs
 loop-again : tie.Need-loop-again Inv-loop μ-loop
 loop-again c = search needs
 
-mix-clock-requires : tie.Need-mix-clock-requires Inv-loop μ-loop
-mix-clock-requires c κs = search needs
-
 returns : tie.Need-returns Inv-loop μ-loop
 returns c = search needs
 
-pub requests-spec : {M : Type 1} → statement M
-requests-spec =
+pub after-requests-spec : {M : Type 1} → statement M
+after-requests-spec =
     tie.close
     (tie.spec
     Inv-loop
@@ -53,10 +53,10 @@ requests-spec =
     begun-requires
     loop-holds
     request-of-requires
+    add-i
     adjust-requires
     mix-outcome-requires
-    add-i
+    later-requires
     loop-less
     loop-again
-    mix-clock-requires
     returns)

@@ -1,8 +1,8 @@
--- `bench::clocks::numbers` is safe and ends.
+-- `bench::values::numbers` is safe and ends.
 use Prim.Native.Nat.{_≤_, _-_}
 use borrow.Author.Needs.{needs}
-use Rattle.bench.proofs.clocks.numbers.Statement.{statement}
-use Rattle.bench.proofs.clocks.numbers.Tie as tie
+use Rattle.bench.proofs.values.numbers.Statement.{statement}
+use Rattle.bench.proofs.values.numbers.Tie as tie
 
 abbrev Inv-loop : tie.InvT-loop
 Inv-loop values₀ i₀ values i = i ≤ 64
