@@ -1,4 +1,6 @@
 pub mod Digits
+pub mod Words
+pub mod Placed
 pub mod Parts
 pub mod DayTime
 pub mod Bytes

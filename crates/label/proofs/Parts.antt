@@ -1,7 +1,6 @@
 -- The hour, minute and second of a second, and the ranges of its date.
 use mathlib.Core.Path.{_≡_}
-use mathlib.Core.Bool.{Bool, true, false, cond}
-use Prim.Native.Nat.{ℕ, _-_, _/_, _%_, _≤_, _<_}
+use Prim.Native.Nat.{ℕ, _*_, _-_, _/_, _%_, _≤_, _<_}
 use native.Mathlib.Omega.{arith}
 use native.Mathlib.Nat.{div-div-eq-div-mul}
 use Rattle.calendar.specs.declared.Date.{Date}
@@ -11,18 +10,14 @@ use Rattle.calendar.proofs.Closed.{year-bound}
 
 -- ---- the time of a day
 
-pub hour-of : (s : ℕ) → s % 86400 / 60 / 60 ≡ s / 3600 % 24
-hour-of s = omega (arith, div-div-eq-div-mul (s % 86400) 60 60)
+pub hour-of : (s : ℕ) → s % 86400 / 3600 ≡ s / 3600 % 24
+hour-of s = omega arith
 
-pub minute-of : (s : ℕ) → s % 86400 / 60 % 60 ≡ s / 60 % 60
-minute-of s = omega arith
+pub minute-of : (s : ℕ) → s % 86400 / 60 - 60 * (s % 86400 / 3600) ≡ s / 60 % 60
+minute-of s = omega (arith, div-div-eq-div-mul (s % 86400) 60 60)
 
-pub second-of : (s : ℕ) → s % 86400 % 60 ≡ s % 60
+pub second-of : (s : ℕ) → s % 86400 - 60 * (s % 86400 / 60) ≡ s % 60
 second-of s = omega arith
-
-pub second-below : (s : ℕ) (sixty : Bool) → cond sixty 60 (s % 86400 % 60) < 100
-second-below s true = omega arith
-second-below s false = omega arith
 
 -- ---- the date
 
@@ -39,3 +34,7 @@ ranges n h =
 
 pub ranges-of : (s : ℕ) {d : Date} → s < 4294967296 → d ≡ dateOf (s / 86400) → Ranges d
 ranges-of s h e = rw e (ranges (s / 86400) (omega arith))
+
+-- a hundredth of its year, as `date_text` works it out
+pub century-of : (s : ℕ) {d : Date} → s < 4294967296 → d ≡ dateOf (s / 86400) → d .year * 5243 / 524288 ≡ d .year / 100
+century-of s {d} h e = let r = ranges-of s h e .year in omega arith

@@ -1,13 +1,25 @@
--- The steps of the reader, as the contracts of its private functions name them. No public promise rests on these.
+-- The steps of the writer and the reader, as the contracts of their private functions name them. No public promise rests on these.
 use mathlib.Core.Path.{_≡_}
 use mathlib.Core.Bool.{Bool, true, cond, _&&_}
-use mathlib.Core.List.{List}
+use mathlib.Core.List.{List, [], _∷_, _++_}
 use Prim.Native.Nat.{ℕ, _+_, _*_, _-_, _/_, _%_, _<_}
 use lib.Dec.{leb, eqb}
 use lib.ListN.{getD}
 use Rattle.calendar.specs.declared.Date.{Date}
+use Rattle.label.specs.Label.{two, four}
 use Rattle.label.specs.declared.fields.Time.{Time}
 use Rattle.label.specs.declared.fields.Time.the-variants.{At, NoTime}
+
+-- ---- the writer
+
+-- a label's date with the T, and its time of day with the Z
+abbrev pub dateText : Date → List ℕ
+dateText d = four (d .year) ++ (45 ∷ two (d .month)) ++ (45 ∷ two (d .day)) ++ (84 ∷ [])
+
+abbrev pub timeText : ℕ → ℕ → ℕ → List ℕ
+timeText hour minute second = two hour ++ (58 ∷ two minute) ++ (58 ∷ two second) ++ (90 ∷ [])
+
+-- ---- the reader
 
 abbrev pub isDigit : ℕ → Bool
 isDigit b = leb 48 b && leb b 57

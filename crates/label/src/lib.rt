@@ -5,7 +5,6 @@ mod text;
 
 ghost use mathlib.Core.Path.{_≡_};
 ghost use mathlib.Core.Bool.{Bool};
-ghost use Rattle.label.specs.Label.{isSixty};
 ghost use Rattle.label.specs.Writing.{writeRefusal, writtenTo};
 ghost use Rattle.label.specs.Reading.{ReadsAs};
 use crate::fields::Time;
@@ -16,13 +15,6 @@ use clock::state::Clock;
 const LAST_DAY: u32 = calendar::DAYS - 1;
 
 const LAST_DAY_END: u32 = 23295;
-
-// Whether the clock's second reads 60: an inserted second is in progress (status OOP) at a day's end.
-fn is_sixty(c: Clock) -> bool
-    ensures { λ r. ⌜ r ≡ isSixty c ⌝ }
-{
-    (c.status == 3) & (c.seconds % 86400 == 86399)
-}
 
 // Writes the clock's label into the first twenty bytes of `out`, and leaves the later ones. Answers 0; or refusal 1 for a clock
 // out of range, then 14 for a buffer of fewer than twenty bytes, and leaves the buffer as it was.
@@ -36,8 +28,12 @@ pub fn write(c: Clock, out: &mut [u8]) -> u8
     if out.len() < 20 {
         return 14;
     }
-    let label = text::label_of(c.seconds, is_sixty(c));
-    bytes::copy(&label, out);
+    text::put_label(c.seconds, out);
+    // The second can read 60 while an inserted one is in progress (status OOP), which is rare.
+    if c.status == 3 {
+        text::put_sixty(c.seconds, out);
+        return 0;
+    }
     0
 }
 

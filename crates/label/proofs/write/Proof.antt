@@ -1,11 +1,11 @@
--- `label::write` meets its contract: the label is copied over the first twenty bytes, or nothing is written.
+-- `label::write` meets its contract: the label stands in the first twenty bytes, or nothing is written.
 use mathlib.Core.Path.{_≡_, sym, _∙_}
 use mathlib.Core.Bool.{true, false}
-use borrow.Author.Tests.{not-true, not-false, lt-ltb, le-ltb}
+use borrow.Author.Tests.{not-true, not-false, lt-ltb, le-ltb, eq-eqb, ne-eqb}
 use Rattle.clock.specs.State.{inRange}
-use Rattle.label.specs.Label.{labelOf}
 use Rattle.label.specs.Writing.{writeRefusal, writtenTo}
 use borrow.Author.Needs.{needs}
+use Rattle.label.proofs.Placed.{sixty}
 use Rattle.label.proofs.write.Statement.{statement}
 use Rattle.label.proofs.write.Tie as tie
 
@@ -26,33 +26,43 @@ returns-2 c =
     let h : inRange (c .before .before .before .before .args .c) ≡ true = sym (c .before .before .in-range .ensures) ∙ ok in
     (simp (h, lt-ltb _ _ (c .if2 .taken)), simp (h, lt-ltb _ _ (c .if2 .taken)))
 
-is-sixty-requires : tie.Need-is-sixty-requires
-is-sixty-requires c κs = search needs
+put-label-requires : tie.Need-put-label-requires
+put-label-requires c κs = search needs
 
-label-of-requires : tie.Need-label-of-requires
-label-of-requires c κs = search needs
-
-slice-aggregate-copy : tie.Need-slice-aggregate-copy
-slice-aggregate-copy c = search needs
-
-copy-requires : tie.Need-copy-requires
-copy-requires c κs = search needs
+put-sixty-requires : tie.Need-put-sixty-requires
+put-sixty-requires c κs = search needs
 
 same-length : tie.Need-same-length
 same-length c = search needs
 
 returns-3 : tie.Need-returns-3
-unfolding writeRefusal writtenTo labelOf
+unfolding writeRefusal writtenTo
 returns-3 c =
-    let c7 = c .before .before .before .before .before .before .before in
-    let ok = not-false _ (c7 .before .if1 .left) in
-    let h : inRange (c7 .before .before .before .before .args .c) ≡ true = sym (c7 .before .before .in-range .ensures) ∙ ok in
-    let room = le-ltb _ _ (c7 .if2 .left) in (
+    let c9 = c .before .before .before .before .before .before .before .before .before in
+    let i = c9 .before .before .before .before .before .args in
+    let ok = not-false _ (c9 .before .before .if1 .left) in
+    let h : inRange (i .c) ≡ true = sym (c9 .before .before .before .in-range .ensures) ∙ ok in
+    let room = le-ltb _ _ (c9 .before .if2 .left) in
+    let oop = eq-eqb (i .c .status) 3 (c .before .before .before .before .if3 .taken) in (
       simp (h, room),
-      simp (h, room)
-          (rw (c .before .before .before .before .before .label-of .ensures, c .before .before .before .before .before .before .is-sixty .ensures) at
-          (c .before .before .copy .ensures .1)),
+      simp (h, room, oop)
+          (rw (c .before .before .before .before .before .before .before .before .put-label .ensures, sixty (i .c .seconds)) at
+          (c .before .before .put-sixty .ensures)),
     )
+
+same-length-2 : tie.Need-same-length-2
+same-length-2 c = search needs
+
+returns-4 : tie.Need-returns-4
+unfolding writeRefusal writtenTo
+returns-4 c =
+    let c5 = c .before .before .before .before .before in
+    let i = c5 .before .before .before .before .before .args in
+    let ok = not-false _ (c5 .before .before .if1 .left) in
+    let h : inRange (i .c) ≡ true = sym (c5 .before .before .before .in-range .ensures) ∙ ok in
+    let room = le-ltb _ _ (c5 .before .if2 .left) in
+    let other = ne-eqb (i .c .status) 3 (c .if3 .left) in
+    (simp (h, room), simp (h, room, other) (c .before .before .before .before .put-label .ensures))
 
 pub write-spec : {M : Type 1} → statement M
 write-spec =
@@ -61,9 +71,9 @@ write-spec =
     in-range-requires
     returns
     returns-2
-    is-sixty-requires
-    label-of-requires
-    slice-aggregate-copy
-    copy-requires
+    put-label-requires
+    put-sixty-requires
     same-length
-    returns-3)
+    returns-3
+    same-length-2
+    returns-4)
