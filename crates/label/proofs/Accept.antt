@@ -2,6 +2,7 @@
 use mathlib.Core.Path.{_≡_, refl, sym, ap, _∙_}
 use mathlib.Core.Bool.{Bool, true, false, cond, true≢false, _&&_}
 use mathlib.Core.List.{List}
+use mathlib.Core.Logic.{_⊎_, inl, inr, ⊎-elim}
 use Prim.Native.Nat.{ℕ, _+_, _*_, _/_, _%_, _<_}
 use native.Mathlib.Omega.{arith}
 use borrow.Author.Tests.{eqb-true, eqb-false, eq-eqb, le-leb, ltb-true, ltb-false}
@@ -12,14 +13,18 @@ use Rattle.clock.specs.declared.state.Clock.{Clock}
 use Rattle.clock.specs.State.{inRange, freshClock, lastSecond, statusOop, statusBad}
 use Rattle.clock.proofs.Ok.{ok}
 use Rattle.calendar.specs.declared.Date.{Date}
+use Rattle.calendar.specs.declared.Found.{Found}
 use Rattle.calendar.specs.declared.Found.the-variants.{Day, NoDay}
+use Rattle.calendar.specs.Calendar.{dateOf, days}
 use Rattle.calendar.specs.Search.{FoundAs, found, none}
-use Rattle.calendar.proofs.Dates.{one-day}
+use Rattle.calendar.proofs.Dates.{one-day, same-parts}
 use Rattle.label.specs.declared.Answer.{Answer}
 use Rattle.label.specs.declared.fields.Time.the-variants.{At, NoTime}
 use Rattle.label.specs.Label.{labelOf, isSixty}
 use Rattle.label.specs.Reading.{WrittenFor, ReadsAs, accepted, refused}
-use Rattle.label.specs.Steps.{pairAt, isMarked, dateAt, ShownBy, shown, unshown}
+use Rattle.label.specs.Steps.{pairAt, isMarked, dateAt, AlikeDate, ShownBy, shown, unshown}
+use Rattle.label.proofs.Digits.{alike-small, small-alike}
+use Rattle.label.proofs.Parts.{Ranges, ranges}
 use Rattle.label.proofs.Bytes.{Says, says, written}
 use Rattle.label.proofs.DayTime.{shown-once}
 
@@ -78,6 +83,22 @@ accepts {text} s sixty h l e =
 -- bytes that no second is written as are refused
 pub refuses : {text : List ℕ} → ((s : ℕ) (sixty : Bool) → Says text s sixty → ⊥) → ReadsAs text noLabel
 refuses f = refused (λ c w. f (c .seconds) (isSixty c) (clock-says w))
+
+-- ---- a date that is alike is found alike
+
+module _ {d e : Date} (w : AlikeDate d e) where
+  same-date : {n : ℕ} → n < days → (d ≡ dateOf n) ⊎ (e ≡ dateOf n) → d ≡ e
+  same-date {n} h = ⊎-elim
+      (λ (p : d ≡ dateOf n).
+      let r : Ranges d = rw p (ranges n h) in
+      same-parts (w .year) (alike-small (w .month) (omega (arith, r .month))) (alike-small (w .day) (omega (arith, r .day))))
+      (λ (p : e ≡ dateOf n).
+      let r : Ranges e = rw p (ranges n h) in
+      same-parts (w .year) (small-alike (w .month) (omega (arith, r .month))) (small-alike (w .day) (omega (arith, r .day))))
+
+  pub found-alike : {f : Found} → FoundAs d f → FoundAs e f
+  found-alike (found h p) = found h (sym (same-date h (inl p)) ∙ p)
+  found-alike (none g) = none (λ n h p. g n h (same-date h (inr p) ∙ p))
 
 -- ---- the tests
 

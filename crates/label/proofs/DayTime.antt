@@ -7,8 +7,10 @@ use native.Mathlib.Nat.{div-div-eq-div-mul}
 use borrow.Author.Tests.{ltb-false, le-ltb, eqb-true, eq-eqb}
 use lib.Dec.{ltb, eqb}
 use Rattle.integers.proofs.Ranges.{and-true}
+use Rattle.label.specs.declared.fields.Time.{Time}
 use Rattle.label.specs.declared.fields.Time.the-variants.{At, NoTime}
-use Rattle.label.specs.Steps.{Shows, ShownBy, shown, unshown}
+use Rattle.label.specs.Steps.{Alike, Shows, ShownBy, shown, unshown}
+use Rattle.label.proofs.Digits.{alike-small, small-alike}
 
 or-false : (a b : Bool) → a || b ≡ false → (a ≡ false) × (b ≡ false)
 or-false true b e = absurd (true≢false e)
@@ -29,6 +31,33 @@ module _ {t t′ h m s : ℕ} where
 
 pub shown-once : {t t′ h m s : ℕ} {sixty sixty′ : Bool} → Shows t sixty h m s → Shows t′ sixty′ h m s → (t ≡ t′) × (sixty ≡ sixty′)
 shown-once {sixty = x} {sixty′ = x′} w w′ = shown-once-by x x′ w w′
+
+-- ---- numbers that are alike show the same
+
+second-small : (t : ℕ) (sixty : Bool) → cond sixty 60 (t % 60) < 100
+second-small t true = omega arith
+second-small t false = omega arith
+
+module _ {t h m s : ℕ} {sixty : Bool} (w : Shows t sixty h m s) where
+  hour-small : h < 100
+  hour-small = omega (arith, w .hour, w .within)
+
+  minute-small : m < 100
+  minute-small = omega (arith, w .minute)
+
+  seconds-small : s < 100
+  seconds-small = rw (w .second) (second-small t sixty)
+
+  shows-of : {h′ m′ s′ : ℕ} → h ≡ h′ → m ≡ m′ → s ≡ s′ → Shows t sixty h′ m′ s′
+  shows-of p q r =
+      record { within = w .within; last = w .last; hour = sym p ∙ w .hour; minute = sym q ∙ w .minute; second = sym r ∙ w .second }
+
+pub shown-alike : {h h′ m m′ s s′ : ℕ} {r : Time} → Alike h h′ → Alike m m′ → Alike s s′ → ShownBy h m s r → ShownBy h′ m′ s′ r
+shown-alike p q r (shown w) =
+    shown (shows-of w (alike-small p (hour-small w)) (alike-small q (minute-small w)) (alike-small r (seconds-small w)))
+shown-alike p q r (unshown f) = unshown (λ t sixty w.
+    f t sixty
+    (shows-of w (sym (small-alike p (hour-small w))) (sym (small-alike q (minute-small w))) (sym (small-alike r (seconds-small w)))))
 
 -- ---- the tests
 

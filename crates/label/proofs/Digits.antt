@@ -1,15 +1,15 @@
 -- Laws of decimal digits: written and read back.
 use mathlib.Core.Path.{_≡_, refl, sym, _∙_}
-use mathlib.Core.Bool.{Bool, true, false, true≢false, _&&_}
+use mathlib.Core.Bool.{Bool, true, false, _&&_}
 use mathlib.Core.Logic.{_⊎_, inl, inr, ⊎-elim}
 use Prim.Native.Nat.{ℕ, _+_, _*_, _-_, _/_, _%_, _^_, _≤_, _<_}
 use native.Mathlib.Omega.{arith}
 use native.Mathlib.Nat.{div-div-eq-div-mul}
-use borrow.Author.Tests.{leb-true, le-leb, ltb-true, lt-ltb}
+use borrow.Author.Tests.{leb-true, le-leb, ltb-true, ltb-false}
 use lib.Dec.{leb, ltb}
 use Rattle.integers.proofs.Ranges.{and-true}
 use Rattle.label.specs.Label.{digit}
-use Rattle.label.specs.Steps.{isDigit, pairOf}
+use Rattle.label.specs.Steps.{isDigit, pairOf, Alike, same, large}
 
 -- ---- the last two digits of a longer number
 
@@ -71,24 +71,44 @@ module _ (a b : ℕ) where
 unwrapped : (x k v : ℕ) → x < 2 ^ 32 → k ≤ v → (x + k) % 2 ^ 32 ≡ v → x + k ≡ v
 unwrapped x k v h l e = omega arith
 
--- what `pair` computes: n is 10 a + b - 528 and u is b - 48, both wrapped at 2 ^ 32
-module _ (a b n u : ℕ) (ha : a < 256) (hb : b < 256) (hn : n < 2 ^ 32) (hu : u < 2 ^ 32) (en : (n + 528) % 2 ^ 32 ≡ 10 * a + b)
-    (eu : (u + 48) % 2 ^ 32 ≡ b) where
-  pub pair-read : ltb n 100 && ltb u 10 ≡ true → n ≡ pairOf a b
-  pair-read t =
-      let p = and-true (ltb n 100) (ltb u 10) t in
-      let small : n < 100 = ltb-true n 100 (p .0) in
-      let unit : u < 10 = ltb-true u 10 (p .1) in
-      sym (pair-digits a b (omega arith, omega arith) (omega arith, omega arith) ∙ omega arith)
+-- what `pair` computes: u is b - 48 and n is 10 a + u - 480, both wrapped at 2 ^ 32
+module _ (a b u : ℕ) (hb : b < 256) (hu : u < 2 ^ 32) (eu : (u + 48) % 2 ^ 32 ≡ b) where
+  pub pair-refused : 9 < u → Alike 10000 (pairOf a b)
+  pair-refused h = ⊎-elim (λ (p : Pair a b). absurd (omega (arith, p .units))) (λ (e : pairOf a b ≡ 10000). same (sym e)) (pair-either a b)
 
-  pub pair-refused : ltb n 100 && ltb u 10 ≡ false → 10000 ≡ pairOf a b
-  pair-refused f =
-      ⊎-elim
-      (λ (p : Pair a b).
-      let number : n + 528 ≡ 10 * a + b = unwrapped n 528 (10 * a + b) hn (omega (arith, p .tens, p .units)) en in
-      let unit : u + 48 ≡ b = unwrapped u 48 b hu (p .units .0) eu in
-      absurd
-      (true≢false
-      (sym (rw (lt-ltb n 100 (omega (arith, p .tens, p .units)), lt-ltb u 10 (omega (arith, p .units)))) ∙ f)))
-      sym
-      (pair-either a b)
+  module _ (n : ℕ) (ha : a < 256) (hn : n < 2 ^ 32) (en : (n + 480) % 2 ^ 32 ≡ 10 * a + u) (small : u ≤ 9) where
+    unit : u + 48 ≡ b
+    unit = omega arith
+
+    pub pair-read : Alike n (pairOf a b)
+    pair-read =
+        ⊎-elim
+        (λ (p : Pair a b).
+        let whole : n + 480 ≡ 10 * a + u = unwrapped n 480 (10 * a + u) hn (omega (arith, p .tens)) en in
+        same (omega (arith, unit, p .tens, p .number)))
+        (λ (e : pairOf a b ≡ 10000). by-size (ltb n 100) refl e)
+        (pair-either a b)
+      where
+        by-size : (t : Bool) → ltb n 100 ≡ t → pairOf a b ≡ 10000 → Alike n (pairOf a b)
+        by-size true l e =
+            let below : n < 100 = ltb-true n 100 l in
+            absurd (omega (arith, unit, e, pair-digits a b (omega (arith, unit), omega (arith, unit)) (omega (arith, unit), omega (arith, unit))))
+        by-size false l e = large (ltb-false n 100 l) (omega (arith, e))
+
+-- ---- alike numbers
+
+pub alike-small : {m n : ℕ} → Alike m n → m < 100 → m ≡ n
+alike-small (same e) h = e
+alike-small (large p q) h = absurd (omega arith)
+
+pub small-alike : {m n : ℕ} → Alike m n → n < 100 → m ≡ n
+small-alike (same e) h = e
+small-alike (large p q) h = absurd (omega arith)
+
+-- what `bounded_pair` makes of it
+pub pair-kept : (a b : ℕ) {n : ℕ} → Alike n (pairOf a b) → 100 ≤ n → 10000 ≡ pairOf a b
+pair-kept a b w h =
+    ⊎-elim
+    (λ (p : Pair a b). absurd (omega (arith, small-alike w (omega (arith, p .tens, p .units, p .number)), p .number)))
+    sym
+    (pair-either a b)

@@ -2,7 +2,7 @@
 use mathlib.Core.Path.{_≡_}
 use mathlib.Core.Bool.{Bool, true, cond, _&&_}
 use mathlib.Core.List.{List, [], _∷_, _++_}
-use Prim.Native.Nat.{ℕ, _+_, _*_, _-_, _/_, _%_, _<_}
+use Prim.Native.Nat.{ℕ, _+_, _*_, _-_, _/_, _%_, _≤_, _<_}
 use lib.Dec.{leb, eqb}
 use lib.ListN.{getD}
 use Rattle.calendar.specs.declared.Date.{Date}
@@ -28,6 +28,11 @@ isDigit b = leb 48 b && leb b 57
 unfoldable pub pairOf : ℕ → ℕ → ℕ
 pairOf tens units = cond (isDigit tens && isDigit units) (10 * (tens - 48) + (units - 48)) 10000
 
+-- the same number, or two that are both too large for two digits
+pub data Alike (m n : ℕ) : Type 0 where
+  same : m ≡ n → Alike m n
+  large : 100 ≤ m → 100 ≤ n → Alike m n
+
 abbrev pub pairAt : List ℕ → ℕ → ℕ
 pairAt text i = pairOf (getD text i 0) (getD text (i + 1) 0)
 
@@ -44,6 +49,11 @@ isMarked text =
 -- the date that the digits say, if they are digits
 abbrev pub dateAt : List ℕ → Date
 dateAt text = record { year = 100 * pairAt text 0 + pairAt text 2; month = pairAt text 5; day = pairAt text 8 }
+
+pub record AlikeDate (d e : Date) : Type 0 where
+  pub year : d .year ≡ e .year
+  pub month : Alike (d .month) (e .month)
+  pub day : Alike (d .day) (e .day)
 
 -- the second t of a day, with a 60 or without, shows this hour, minute and second
 pub record Shows (t : ℕ) (sixty : Bool) (h m s : ℕ) : Type 0 where

@@ -2,17 +2,27 @@
 ghost use mathlib.Core.Path.{_≡_};
 ghost use Prim.Native.Nat.{_+_, _<_};
 ghost use lib.ListN.{length};
-ghost use Rattle.label.specs.Steps.{pairOf, pairAt, isMarked, dateAt, ShownBy};
+ghost use Rattle.label.specs.Steps.{Alike, pairOf, pairAt, isMarked, dateAt, AlikeDate, ShownBy};
 use calendar::Date;
 
-// The number of two decimal digits; 10,000 where a byte is no digit.
+// The number of two decimal digits; 100 or more where a byte is no digit.
 fn pair(tens: u8, units: u8) -> u32
+    ensures { λ r. ⌜ Alike r (pairOf tens units) ⌝ }
+{
+    let unit = std::num::wrapping_sub_u32(units as u32, 48);
+    if 9 < unit {
+        return 10000;
+    }
+    // Below 100 for a digit in the first byte alone: that one needs no test of its own.
+    std::num::wrapping_sub_u32(10 * (tens as u32) + unit, 480)
+}
+
+// The same; 10,000 where a byte is no digit, so that no sum with it is what four digits say.
+fn bounded_pair(tens: u8, units: u8) -> u32
     ensures { λ r. ⌜ r ≡ pairOf tens units ⌝ }
 {
-    // 10 t + u with a digit u is below 100 for a digit t alone, so the first byte needs no test of its own.
-    let n = std::num::wrapping_sub_u32(10 * (tens as u32) + (units as u32), 528);
-    let unit = std::num::wrapping_sub_u32(units as u32, 48);
-    if (n < 100) & (unit < 10) { n } else { 10000 }
+    let n = pair(tens, units);
+    if n < 100 { n } else { 10000 }
 }
 
 // Whether the bytes between the digits are a label's.
@@ -28,13 +38,13 @@ pub(crate) fn is_marked(text: &[u8]) -> bool
         & (text[19] == b'Z')
 }
 
-// The date that the digits say. A part that is not in digits is 10,000 or more.
+// The date that the digits say; no date where a byte is no digit.
 pub(crate) fn date_at(text: &[u8]) -> Date
     requires { ⌜ length (now text) ≡ 20 ⌝ }
-    ensures { λ r. ⌜ r ≡ dateAt (now (text .entry)) ⌝ }
+    ensures { λ r. ⌜ AlikeDate r (dateAt (now (text .entry))) ⌝ }
 {
     Date {
-        year: 100 * pair(text[0], text[1]) + pair(text[2], text[3]),
+        year: 100 * bounded_pair(text[0], text[1]) + bounded_pair(text[2], text[3]),
         month: pair(text[5], text[6]),
         day: pair(text[8], text[9]),
     }

@@ -2,7 +2,7 @@
 use mathlib.Core.Path.{sym, _∙_}
 use native.Mathlib.Omega.{arith}
 use borrow.Author.Tests.{not-true, not-false}
-use Rattle.label.proofs.Accept.{not-twenty, not-marked, not-dated, not-timed, too-late, in-time, is-label}
+use Rattle.label.proofs.Accept.{found-alike, not-twenty, not-marked, not-dated, not-timed, too-late, in-time, is-label}
 use borrow.Author.Needs.{needs}
 use Rattle.label.proofs.read.Statement.{statement}
 use Rattle.label.proofs.read.Tie as tie
@@ -41,7 +41,7 @@ not-a-label-requires-3 c κs = search needs
 returns-3 : tie.Need-returns-3
 returns-3 c =
     let d = c .before .before .before in
-    rw (c .not-a-label3 .ensures) (not-dated _ (rw (d .before .date-at .ensures, c .before .enum-told .given .1) at (d .day-of .ensures)))
+    rw (c .not-a-label3 .ensures) (not-dated _ (found-alike (d .before .date-at .ensures) (rw (c .before .enum-told .given .1) at (d .day-of .ensures))))
 
 time-at-requires : tie.Need-time-at-requires
 time-at-requires c κs = search needs
@@ -67,7 +67,7 @@ returns-5 : tie.Need-returns-5
 returns-5 c =
     let t = c .before .before .before in
     let d = t .before .before .before .before in
-    let day = rw (d .before .before .before .date-at .ensures, d .found .given .1) at (d .before .before .day-of .ensures) in
+    let day = found-alike (d .before .before .before .date-at .ensures) (rw (d .found .given .1) at (d .before .before .day-of .ensures)) in
     let time = rw (t .time .given .1) at (t .before .before .time-at .ensures) in
     rw (c .not-a-label5 .ensures) (too-late _ _ _ _ day time (c .before .if3 .taken))
 
@@ -75,7 +75,7 @@ mul-t12 : tie.Need-mul-t12
 mul-t12 c =
     let t = c .before .before in
     let d = t .before .before .before .before in
-    let day = rw (d .before .before .before .date-at .ensures, d .found .given .1) at (d .before .before .day-of .ensures) in
+    let day = found-alike (d .before .before .before .date-at .ensures) (rw (d .found .given .1) at (d .before .before .day-of .ensures)) in
     let time = rw (t .time .given .1) at (t .before .before .time-at .ensures) in
     record { fits = omega (arith, in-time day time (c .if3 .left)) }
 
@@ -83,7 +83,7 @@ add-t13 : tie.Need-add-t13
 add-t13 c =
     let t = c .before .before in
     let d = t .before .before .before .before in
-    let day = rw (d .before .before .before .date-at .ensures, d .found .given .1) at (d .before .before .day-of .ensures) in
+    let day = found-alike (d .before .before .before .date-at .ensures) (rw (d .found .given .1) at (d .before .before .day-of .ensures)) in
     let time = rw (t .time .given .1) at (t .before .before .time-at .ensures) in
     record { fits = omega (arith, in-time day time (c .if3 .left)) }
 
@@ -91,7 +91,7 @@ returns-6 : tie.Need-returns-6
 returns-6 c =
     let t = c .before .before in
     let d = t .before .before .before .before in
-    let day = rw (d .before .before .before .date-at .ensures, d .found .given .1) at (d .before .before .day-of .ensures) in
+    let day = found-alike (d .before .before .before .date-at .ensures) (rw (d .found .given .1) at (d .before .before .day-of .ensures)) in
     let time = rw (t .time .given .1) at (t .before .before .time-at .ensures) in
     let m = d .before .before .before .before .before in
     is-label _ _ _ _ (search needs) (sym (m .is-marked .ensures) ∙ not-false _ (d .before .before .before .before .if2 .left)) day time

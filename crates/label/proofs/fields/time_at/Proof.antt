@@ -1,5 +1,6 @@
 -- `label::fields::time_at` meets its contract: the time is what its three pairs of digits say.
 use borrow.Author.Needs.{needs}
+use Rattle.label.proofs.DayTime.{shown-alike}
 use Rattle.label.proofs.fields.time_at.Statement.{statement}
 use Rattle.label.proofs.fields.time_at.Tie as tie
 
@@ -37,7 +38,7 @@ returns : tie.Need-returns
 returns c =
     let hour = c .before .before .before .before .before .before .before .pair .ensures in
     let minute = c .before .before .before .before .pair2 .ensures in
-    rw (hour, minute, c .before .pair3 .ensures) at (c .time-of .ensures)
+    shown-alike hour minute (c .before .pair3 .ensures) (c .time-of .ensures)
 
 pub time-at-spec : {M : Type 1} → statement M
 time-at-spec =
