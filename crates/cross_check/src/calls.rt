@@ -5,15 +5,17 @@ use crate::first::same_byte;
 use crate::first::same_clock;
 use crate::first::same_reading;
 use crate::random::draw;
+use crate::random::set_micros;
+use crate::random::set_second;
+use crate::random::some_request;
+use crate::random::state;
 use crate::rules::Answer;
-use crate::rules::Shown;
 use crate::rules::State;
-use crate::rules::read_nothing;
+use crate::rules::fresh;
+use crate::rules::shown;
 use clock::outcome::Outcome;
-use clock::state::Clock;
 use clock::units::AskedMicros;
 use event::event::Event;
-use event::event::Stepped;
 
 // The refusal that the second implementation gave, and whether the first gave the same answer.
 pub(crate) struct Verdict {
@@ -21,123 +23,107 @@ pub(crate) struct Verdict {
     pub(crate) same: bool,
 }
 
-fn compared(a: Answer, o: Outcome) -> Verdict {
+// The second's answer to the call of a code: 0 a tick, 1 a setting, 2 a request, 3 a reading.
+fn answer_of(s: State, code: u64, case: u64) -> Answer {
+    let row = crate::random::row(case, code);
+    crate::rules::step(s, &row)
+}
+
+fn compared(s: State, code: u64, case: u64, o: Outcome) -> Verdict {
+    let a = answer_of(s, code, case);
     Verdict {
         refusal: a.refusal,
         same: same_byte(a.refusal, o.refusal) & same_clock(a.state, o.clock),
     }
 }
 
+// Calls on a clock that need not be sound.
 pub(crate) fn tick(case: u64) -> Verdict {
-    let s = crate::random::state(case);
-    compared(crate::rules::tick(s), clock::tick::tick(clock_of(s)))
+    let s = state(case);
+    compared(s, 0, case, clock::tick::tick(clock_of(s)))
 }
 
 pub(crate) fn set(case: u64) -> Verdict {
-    let s = crate::random::state(case);
-    let seconds = crate::random::set_second(case);
-    let micros = crate::random::set_micros(case);
+    let s = state(case);
+    let micros = AskedMicros(set_micros(case));
     compared(
-        crate::rules::set(s, seconds, micros),
-        clock::setting::set(clock_of(s), seconds, AskedMicros(micros)),
+        s,
+        1,
+        case,
+        clock::setting::set(clock_of(s), set_second(case), micros),
     )
 }
 
 pub(crate) fn adjust(case: u64) -> Verdict {
-    let s = crate::random::state(case);
-    let r = crate::random::asked(case);
-    compared(
-        crate::rules::adjust(s, r),
-        request::request::adjust(clock_of(s), request_of(r)),
-    )
+    let s = state(case);
+    let r = request_of(some_request(case));
+    compared(s, 2, case, request::request::adjust(clock_of(s), r))
 }
 
 pub(crate) fn read(case: u64) -> Verdict {
-    let s = crate::random::state(case);
-    let mine = crate::rules::read(s);
-    let told = clock::reading::read(clock_of(s));
+    let s = state(case);
+    let a = answer_of(s, 3, case);
+    let t = clock::reading::read(clock_of(s));
     Verdict {
-        refusal: mine.refusal,
-        same: same_byte(mine.refusal, told.refusal) & same_reading(mine, told.reading),
+        refusal: a.refusal,
+        same: same_byte(a.refusal, t.refusal) & same_reading(shown(a, 3), t.reading),
     }
 }
 
-// One event of a list of calls.
-pub(crate) struct Stride {
-    pub(crate) verdict: Verdict,
-    pub(crate) state: State,
-    pub(crate) clock: Clock,
-}
-
-fn strode(a: Answer, shown: Shown, e: Stepped) -> Stride {
-    let same = same_byte(a.refusal, e.refusal)
-        & same_clock(a.state, e.clock)
-        & same_reading(shown, e.reading);
-    let state = a.state;
-    let clock = e.clock;
-    Stride {
-        verdict: Verdict {
-            refusal: a.refusal,
-            same: same,
-        },
-        state: state,
-        clock: clock,
+fn event_of(code: u64, case: u64) -> Event {
+    match code {
+        0 => Event::Tick,
+        1 => Event::Setting(set_second(case), AskedMicros(set_micros(case))),
+        2 => Event::Request(request_of(some_request(case))),
+        _ => Event::Reading,
     }
 }
 
-// An event other than an accepted reading shows zeros and status 4.
-fn unshown(a: Answer, e: Stepped) -> Stride {
-    strode(a, read_nothing(0), e)
+// An event, where the second has answered `a`.
+fn stepped(s: State, code: u64, case: u64, a: Answer) -> bool {
+    let e = event::event::step(clock_of(s), event_of(code, case));
+    let mut same = same_byte(a.refusal, e.refusal);
+    same = same & same_clock(a.state, e.clock);
+    same & same_reading(shown(a, code), e.reading)
 }
 
-fn step_setting(case: u64, s: State, c: Clock) -> Stride {
-    let seconds = crate::random::set_second(case);
-    let micros = crate::random::set_micros(case);
-    unshown(
-        crate::rules::set(s, seconds, micros),
-        event::event::step(c, Event::Setting(seconds, AskedMicros(micros))),
-    )
-}
-
-fn step_request(case: u64, s: State, c: Clock) -> Stride {
-    let r = crate::random::asked(case);
-    unshown(
-        crate::rules::adjust(s, r),
-        event::event::step(c, Event::Request(request_of(r))),
-    )
-}
-
-fn step_reading(s: State, c: Clock) -> Stride {
-    let shown = crate::rules::read(s);
-    strode(
-        Answer {
-            refusal: shown.refusal,
-            state: s,
-        },
-        shown,
-        event::event::step(c, Event::Reading),
-    )
-}
-
-// An event, `ticks` of 1,024 a tick and of the others half of them requests.
-pub(crate) fn step(case: u64, ticks: u64, s: State, c: Clock) -> Stride {
-    let kind = draw(case, 80) % 1024;
-    if kind < ticks {
-        return unshown(crate::rules::tick(s), event::event::step(c, Event::Tick));
+pub(crate) fn any_event(case: u64) -> Verdict {
+    let s = state(case);
+    let code = draw(case, 80) % 4;
+    let a = answer_of(s, code, case);
+    Verdict {
+        refusal: a.refusal,
+        same: stepped(s, code, case, a),
     }
-    let other = draw(case, 81) % 8;
-    if other < 2 {
-        return step_setting(case, s, c);
-    }
-    if other < 6 {
-        return step_request(case, s, c);
-    }
-    step_reading(s, c)
 }
 
-// An event on a clock that need not be sound.
-pub(crate) fn any_step(case: u64) -> Verdict {
-    let s = crate::random::state(case);
-    let e = step(case, 256, s, clock_of(s));
-    e.verdict
+// About 1,000 of 1,024 are ticks, and half of the others requests.
+fn some_code(case: u64) -> u64 {
+    let v = draw(case, 81);
+    if 95 < v % 4096 {
+        return 0;
+    }
+    let codes = [1, 2, 2, 3];
+    codes[(v / 4096 % 4) as usize]
+}
+
+// A list of 5,000 events from a fresh clock. Its refusal is the last one that an event gave.
+pub(crate) fn list(case: u64) -> Verdict {
+    let mut s = fresh();
+    let mut same = true;
+    let mut refusal: u64 = 0;
+    let mut k: u64 = 0;
+    while k < 5000 {
+        let c = case % 65536 * 5000 + k;
+        let code = some_code(c);
+        let a = answer_of(s, code, c);
+        same = same & stepped(s, code, c, a);
+        refusal = crate::signed::pick(a.refusal == 0, refusal, a.refusal);
+        s = a.state;
+        k += 1;
+    }
+    Verdict {
+        refusal: refusal,
+        same: same,
+    }
 }

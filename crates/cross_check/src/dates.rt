@@ -1,9 +1,13 @@
-// Document 01's UTC label, a second time: days are counted off year by year and month by month.
+// Document 01's UTC label and its lines, a second time: days are counted off year by year and month by month, a date and time is one number
+// of fourteen digits, and a text is a pattern whose zeros are replaced by digits from the last to the first.
+use crate::first::wide;
 use crate::rules::State;
-use crate::rules::sound;
 use crate::signed::minus;
 use crate::signed::pick;
 use crate::signed::plus;
+
+// A print: label, microseconds, status.
+pub(crate) const PRINT: [u8; 32] = *b"0000-00-00T00:00:00Z 000000 0\n..";
 
 // A place in a calendar: the years or months passed, and the days that are left.
 struct Rest {
@@ -11,22 +15,20 @@ struct Rest {
     days: u64,
 }
 
-fn leap(year: u64) -> bool {
-    (year % 4 == 0) & ((year % 100 != 0) | (year % 400 == 0))
-}
-
 fn year_days(year: u64) -> u64 {
-    if leap(year) { 366 } else { 365 }
+    pick(
+        (year % 4 == 0) & ((year % 100 != 0) | (year % 400 == 0)),
+        366,
+        365,
+    )
 }
 
 fn month_days(year: u64, month: u64) -> u64 {
-    if month == 2 {
-        return minus(year_days(year), 337);
+    match month {
+        2 => minus(year_days(year), 337),
+        4 | 6 | 9 | 11 => 30,
+        _ => 31,
     }
-    if (month == 4) | (month == 6) | (month == 9) | (month == 11) {
-        return 30;
-    }
-    31
 }
 
 // From 1970-01-01: the year, and the day in it, from 0.
@@ -91,78 +93,78 @@ fn days_to_month(year: u64, month: u64) -> u64 {
     days
 }
 
-fn digit(n: u64) -> u8 {
-    (n % 10 + 48) as u8
+// Two more digits at the end of a number.
+fn joined(high: u64, low: u64) -> u64 {
+    high % 1000000000000 * 100 + low % 100
 }
 
-// The numbers of a label.
-struct Parts {
-    year: u64,
-    month: u64,
-    day: u64,
-    hour: u64,
-    minute: u64,
-    second: u64,
-}
-
-fn parts_of(second: u64, sixty: bool) -> Parts {
+// The date of a second, eight digits.
+pub(crate) fn date_of(second: u64) -> u64 {
     let y = year_at(second / 86400);
     let m = month_at(y.passed, y.days);
-    Parts {
-        year: y.passed,
-        month: m.passed,
-        day: plus(m.days, 1),
-        hour: second % 86400 / 3600,
-        minute: second % 3600 / 60,
-        second: pick(sixty, 60, second % 60),
-    }
+    joined(joined(y.passed, m.passed), plus(m.days, 1))
 }
 
-// The label of a second, then `fill` four times; `sixty` has the last second of a day read 60.
-pub(crate) fn label_of(second: u64, sixty: bool, fill: u8) -> [u8; 24] {
-    let p = parts_of(second, sixty);
-    [
-        digit(p.year / 1000),
-        digit(p.year / 100),
-        digit(p.year / 10),
-        digit(p.year),
-        b'-',
-        digit(p.month / 10),
-        digit(p.month),
-        b'-',
-        digit(p.day / 10),
-        digit(p.day),
-        b'T',
-        digit(p.hour / 10),
-        digit(p.hour),
-        b':',
-        digit(p.minute / 10),
-        digit(p.minute),
-        b':',
-        digit(p.second / 10),
-        digit(p.second),
-        b'Z',
-        fill,
-        fill,
-        fill,
-        fill,
-    ]
+// The date and time of a second, fourteen digits; `sixty` has its second read 60.
+pub(crate) fn stamp_of(second: u64, sixty: bool) -> u64 {
+    let hour = joined(date_of(second), second % 86400 / 3600);
+    joined(
+        joined(hour, second % 3600 / 60),
+        pick(sixty, 60, second % 60),
+    )
 }
 
-// Status OOP in the last second of a day.
-pub(crate) fn shows_sixty(s: State) -> bool {
-    (s.status == 3) & (s.seconds % 86400 == 86399)
+// The pattern with its zeros before `end` replaced by the digits of n, the last one first.
+pub(crate) fn filled(pattern: [u8; 32], end: usize, n: u64) -> [u8; 32] {
+    let mut text = pattern;
+    let mut rest = n;
+    let mut k = end % 33;
+    while 0 < k {
+        k -= 1;
+        if text[k] == b'0' {
+            text[k] = (rest % 10 + 48) as u8;
+            rest = rest / 10;
+        }
+    }
+    text
 }
 
-// What a writer must answer with room for `room` bytes: 0, 1 or 14.
-pub(crate) fn write_refusal(s: State, room: usize) -> u64 {
-    if !sound(s) {
-        return 1;
+// The label of a second is the text's first twenty bytes.
+pub(crate) fn label_of(second: u64, sixty: bool) -> [u8; 32] {
+    filled(PRINT, 20, stamp_of(second, sixty))
+}
+
+// A clock's date and time: status OOP in the last second of a day reads 60.
+pub(crate) fn clock_stamp(s: State) -> u64 {
+    stamp_of(s.seconds, (s.status == 3) & (s.seconds % 86400 == 86399))
+}
+
+// The number that stands where a label has its digits, whatever the bytes are.
+fn digits_of(text: &[u8; 32]) -> u64 {
+    let pattern = PRINT;
+    let mut n: u64 = 0;
+    let mut k: usize = 0;
+    while k < 20 {
+        if pattern[k] == b'0' {
+            n = n % 100000000000000 * 10 + wide(text[k]) % 16 % 10;
+        }
+        k += 1;
     }
-    if room < 20 {
-        return 14;
-    }
-    0
+    n
+}
+
+// The second of a date and time of fourteen digits, of any value; a 60 stands for the second before it.
+fn second_of(stamp: u64) -> u64 {
+    let year = stamp / 10000000000 % 2200;
+    let mut days = plus(
+        days_to_year(year),
+        days_to_month(year, stamp / 100000000 % 100),
+    );
+    days = minus(plus(days, stamp / 1000000 % 100), 1);
+    let mut second = days % 1048576 * 24 + stamp / 10000 % 100;
+    second = second % 67108864 * 60 + stamp / 100 % 100;
+    second = second % 4294967296 * 60 + stamp % 100;
+    minus(second, pick(stamp % 100 == 60, 1, 0))
 }
 
 pub(crate) struct Label {
@@ -171,7 +173,20 @@ pub(crate) struct Label {
     pub(crate) sixty: bool,
 }
 
-fn no_label() -> Label {
+// The label that the first `size` bytes hold: they are one where some second is written so.
+pub(crate) fn read(text: &[u8; 32], size: usize) -> Label {
+    let stamp = digits_of(text);
+    let second = second_of(stamp);
+    let sixty = stamp % 100 == 60;
+    let mut written = (size == 20) & (second < 4294967296);
+    written = written & (!sixty | (second % 86400 == 86399));
+    if written & same_label(text, label_of(second, sixty)) {
+        return Label {
+            refusal: 0,
+            second: second,
+            sixty: sixty,
+        };
+    }
     Label {
         refusal: 15,
         second: 0,
@@ -179,101 +194,12 @@ fn no_label() -> Label {
     }
 }
 
-fn is_digit(b: u8) -> bool {
-    (b >= 48) & (b <= 57)
-}
-
-fn digits_stand(t: &[u8; 24]) -> bool {
-    is_digit(t[0])
-        & is_digit(t[1])
-        & is_digit(t[2])
-        & is_digit(t[3])
-        & is_digit(t[5])
-        & is_digit(t[6])
-        & is_digit(t[8])
-        & is_digit(t[9])
-        & is_digit(t[11])
-        & is_digit(t[12])
-        & is_digit(t[14])
-        & is_digit(t[15])
-        & is_digit(t[17])
-        & is_digit(t[18])
-}
-
-fn marks_stand(t: &[u8; 24]) -> bool {
-    (t[4] == b'-')
-        & (t[7] == b'-')
-        & (t[10] == b'T')
-        & (t[13] == b':')
-        & (t[16] == b':')
-        & (t[19] == b'Z')
-}
-
-fn value(b: u8) -> u64 {
-    minus(b as u64, 48)
-}
-
-fn two(a: u8, b: u8) -> u64 {
-    value(a) % 16 * 10 + value(b) % 16
-}
-
-// The label that the first `size` bytes hold.
-pub(crate) fn read(t: &[u8; 24], size: usize) -> Label {
-    if size != 20 {
-        return no_label();
+fn same_label(text: &[u8; 32], label: [u8; 32]) -> bool {
+    let mut same = true;
+    let mut k: usize = 0;
+    while k < 20 {
+        same = same & (text[k] == label[k]);
+        k += 1;
     }
-    if !(digits_stand(t) & marks_stand(t)) {
-        return no_label();
-    }
-    let year = two(t[0], t[1]) % 128 * 100 + two(t[2], t[3]) % 128;
-    let month = two(t[5], t[6]);
-    let day = two(t[8], t[9]);
-    let hour = two(t[11], t[12]);
-    let minute = two(t[14], t[15]);
-    let second = two(t[17], t[18]);
-    if !date_stands(year, month, day) {
-        return no_label();
-    }
-    if !time_stands(hour, minute, second) {
-        return no_label();
-    }
-    let days = plus(
-        plus(days_to_year(year), days_to_month(year, month)),
-        minus(day, 1),
-    );
-    of_parts(
-        days,
-        hour % 32 * 3600 + minute % 64 * 60 + second % 64,
-        second == 60,
-    )
-}
-
-fn date_stands(year: u64, month: u64, day: u64) -> bool {
-    (1970 <= year)
-        & (year <= 2106)
-        & (1 <= month)
-        & (month <= 12)
-        & (1 <= day)
-        & (day <= month_days(year, month))
-}
-
-fn time_stands(hour: u64, minute: u64, second: u64) -> bool {
-    (hour < 24) & (minute < 60) & ((second < 60) | ((second == 60) & (hour == 23) & (minute == 59)))
-}
-
-// A 60 stands for the second before it, the last one of its day.
-fn of_parts(days: u64, time: u64, sixty: bool) -> Label {
-    let mut of_day = time;
-    if sixty {
-        of_day = minus(time, 1);
-    }
-    let total = plus(days % 1048576 * 86400, of_day);
-    if 4294967295 < total {
-        return no_label();
-    }
-    Label {
-        refusal: 0,
-        second: total,
-        sixty: sixty,
-    }
+    same
 }

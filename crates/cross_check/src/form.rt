@@ -1,8 +1,7 @@
 // Document 01's number form, a second time: a number's end is found first, then its value is worked out from the last group to the first.
-use crate::signed::Signed;
-use crate::signed::minus;
-use crate::signed::plus;
-use crate::signed::with_sign;
+// Rows of up to thirteen numbers, as records and events have them, are written and read by a mask: bit k says that number k is there.
+use crate::first::wide;
+use crate::signed::pick;
 
 pub(crate) struct Number {
     pub(crate) refusal: u64,
@@ -18,21 +17,18 @@ fn refused(number: u64) -> Number {
     }
 }
 
-fn wide(b: u8) -> u64 {
-    b as u64
-}
-
 // How many bytes from `at` on say that more follows, at most 5; 6 where the bytes end first.
-fn followers(bytes: &[u8; 16], end: usize, at: usize) -> usize {
+fn followers(bytes: &[u8; 64], end: usize, at: usize) -> usize {
+    if end <= at {
+        return 6;
+    }
+    let room = end - at;
     let mut k: usize = 0;
     while k < 5 {
-        if end <= at {
+        if room <= k {
             return 6;
         }
-        if end - at <= k {
-            return 6;
-        }
-        if wide(bytes[(at % 16 + k) % 16]) < 128 {
+        if bytes[(at % 64 + k) % 64] < 128 {
             return k;
         }
         k += 1;
@@ -40,16 +36,19 @@ fn followers(bytes: &[u8; 16], end: usize, at: usize) -> usize {
     5
 }
 
-// The seven bits of the byte `k` after `at`; 0 for a byte after the last one, which has the number `more`.
-fn group(bytes: &[u8; 16], at: usize, k: usize, more: usize) -> u64 {
-    if more < k {
-        return 0;
+// The value of the bytes from `at` on, of which `more` say that more follows.
+fn value_of(bytes: &[u8; 64], at: usize, more: usize) -> u64 {
+    let mut value: u64 = 0;
+    let mut k = more % 8 + 1;
+    while 0 < k {
+        k -= 1;
+        value = value % 1099511627776 * 128 + wide(bytes[(at % 64 + k) % 64]) % 128;
     }
-    wide(bytes[(at % 16 + k % 16) % 16]) % 128
+    value
 }
 
 // The number at `at` of the first `end` bytes.
-pub(crate) fn read(bytes: &[u8; 16], end: usize, at: usize) -> Number {
+pub(crate) fn read(bytes: &[u8; 64], end: usize, at: usize) -> Number {
     let more = followers(bytes, end, at);
     if more == 6 {
         return refused(10);
@@ -57,70 +56,103 @@ pub(crate) fn read(bytes: &[u8; 16], end: usize, at: usize) -> Number {
     if more == 5 {
         return refused(11);
     }
-    if (0 < more) & (group(bytes, at, more, more) == 0) {
+    if (0 < more) & (bytes[(at % 64 + more % 8) % 64] == 0) {
         return refused(11);
     }
-    let mut value = group(bytes, at, 4, more);
-    value = raised(value, group(bytes, at, 3, more));
-    value = raised(value, group(bytes, at, 2, more));
-    value = raised(value, group(bytes, at, 1, more));
-    value = raised(value, group(bytes, at, 0, more));
     Number {
         refusal: 0,
-        value: value,
+        value: value_of(bytes, at, more),
         size: more % 8 + 1,
     }
 }
 
-fn raised(high: u64, low: u64) -> u64 {
-    high % 1099511627776 * 128 + low % 128
+// Where the reading of a row stands: the place after it, or the refusal; and how many of its numbers were passed.
+pub(crate) struct Cursor {
+    pub(crate) refusal: u64,
+    pub(crate) next: usize,
+    pub(crate) count: usize,
 }
 
-// How many bytes n takes, n below 2^35: one, and one more for each group above the first that leaves something.
-pub(crate) fn size_of(n: u64) -> usize {
-    1
-        + one_if(0 < n / 128) % 2
-        + one_if(0 < n / 16384) % 2
-        + one_if(0 < n / 2097152) % 2
-        + one_if(0 < n / 268435456) % 2
-}
-
-fn one_if(yes: bool) -> usize {
-    if yes { 1 } else { 0 }
-}
-
-// The byte `k` of n's written form, k below its size.
-pub(crate) fn byte_of(n: u64, k: usize) -> u64 {
-    let rest = shifted(n, k);
-    if rest < 128 { rest } else { rest % 128 + 128 }
-}
-
-fn shifted(n: u64, k: usize) -> u64 {
-    if k == 0 {
-        return n;
+// Reads the numbers that the mask names into the row, from `at` of the first `end` bytes on.
+pub(crate) fn take(
+    bytes: &[u8; 64],
+    end: usize,
+    at: usize,
+    mask: u64,
+    row: &mut [u64; 13],
+) -> Cursor {
+    let mut next = at;
+    let mut rest = mask;
+    let mut k: usize = 0;
+    while k < 13 {
+        if rest % 2 == 1 {
+            let n = read(bytes, end, next);
+            if n.refusal != 0 {
+                return Cursor {
+                    refusal: n.refusal,
+                    next: next,
+                    count: k,
+                };
+            }
+            row[k] = n.value;
+            next = next % 65536 + n.size % 8;
+        }
+        rest = rest / 2;
+        k += 1;
     }
-    if k == 1 {
-        return n / 128;
+    Cursor {
+        refusal: 0,
+        next: next,
+        count: 13,
     }
-    if k == 2 {
-        return n / 16384;
-    }
-    if k == 3 {
-        return n / 2097152;
-    }
-    n / 268435456
 }
 
-// v >= 0 to 2v, v < 0 to -2v - 1.
-pub(crate) fn mapped(v: Signed) -> u64 {
-    let double = plus(v.size, v.size);
-    if v.negative { minus(double, 1) } else { double }
+// Writes n, below 2^35, from `at` on, as far as the bytes reach, and gives the place after it.
+fn put(bytes: &mut [u8; 64], at: usize, n: u64) -> usize {
+    let mut rest = n;
+    let mut p = at % 4096;
+    let mut k: usize = 0;
+    while k < 5 {
+        if p < 64 {
+            bytes[p] = ((rest % 128 + pick(127 < rest, 128, 0) % 129) % 256) as u8;
+        }
+        p = p % 4096 + 1;
+        if rest < 128 {
+            return p;
+        }
+        rest = rest / 128;
+        k += 1;
+    }
+    p
 }
 
-pub(crate) fn unmapped(n: u64) -> Signed {
-    if n % 2 == 0 {
-        with_sign(false, n / 2)
-    } else {
-        with_sign(true, n / 2 + 1)
+// Writes the numbers of the row that the mask names from `at` on, each modulo 2^35, as far as the bytes reach, and gives the place after
+// them.
+pub(crate) fn put_all(bytes: &mut [u8; 64], at: usize, row: &[u64; 13], mask: u64) -> usize {
+    let mut next = at;
+    let mut rest = mask;
+    let mut k: usize = 0;
+    while k < 13 {
+        if rest % 2 == 1 {
+            next = put(bytes, next, row[k] % 34359738368);
+        }
+        rest = rest / 2;
+        k += 1;
+    }
+    next
+}
+
+// A row written at `at` of a buffer that holds `fill`, and the place after it.
+pub(crate) struct Draft {
+    pub(crate) text: [u8; 64],
+    pub(crate) next: usize,
+}
+
+pub(crate) fn laid(row: &[u64; 13], mask: u64, at: usize, fill: u8) -> Draft {
+    let mut text = [fill; 64];
+    let next = put_all(&mut text, at, row, mask);
+    Draft {
+        text: text,
+        next: next,
     }
 }

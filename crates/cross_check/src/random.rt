@@ -1,13 +1,10 @@
 // Pseudo-random and edge values. Every value follows from a case's number and a number for what is drawn, so that a case can be run again
-// by its number.
-use crate::rules::Asked;
+// by its number. Signed values are drawn as the numbers that they are mapped to, so that both ends of a range are met.
 use crate::rules::State;
-use crate::signed::Signed;
 use crate::signed::least;
 use crate::signed::minus;
 use crate::signed::pick;
 use crate::signed::plus;
-use crate::signed::with_sign;
 
 const SEED: u64 = 20261115;
 
@@ -18,199 +15,225 @@ fn mixed(n: u64) -> u64 {
     (b ^ (b / 65536)) % 4294967296
 }
 
-// Below 2^31.
+// Below 2^28.
 pub(crate) fn draw(case: u64, what: u64) -> u64 {
     let a = mixed(case % 4294967296 + SEED);
-    mixed(a % 4294967296 + what % 65536 * 2654435769) / 2
+    mixed(a % 4294967296 + what % 65536 * 2654435769) / 16
 }
 
-// Below 2^62.
+// Below 2^56.
 pub(crate) fn wide(case: u64, what: u64) -> u64 {
-    draw(case, what) % 2147483648 * 2147483648 + draw(case, plus(what, 1000)) % 2147483648
+    draw(case, what) % 268435456 * 268435456 + draw(case, plus(what, 1000)) % 268435456
 }
 
-// Mostly 0 to `limit`, often near its ends; once in 32 just above it, once in 32 anything to `far`.
+// Mostly 0 to `limit`, often near its ends; once in 16 just above it or anything to `far`.
 fn near(case: u64, what: u64, limit: u64, far: u64) -> u64 {
-    let kind = draw(case, what) % 32;
-    let v = wide(case, plus(what, 1));
-    if kind == 31 {
-        return plus(limit, 1);
+    let v = wide(case, what);
+    let any = v % (limit % 4611686018427387904 + 1);
+    match draw(case, plus(what, 500)) % 16 {
+        0 => pick(
+            v % 4 < 2,
+            plus(limit, 1 + v % 2),
+            v % (far % 4611686018427387904 + 1),
+        ),
+        1 => minus(limit, v % 3),
+        2 => any % 4096,
+        _ => any,
     }
-    if kind == 30 {
-        return v % (far % 4611686018427387904 + 1);
-    }
-    if 26 <= kind {
-        return minus(limit, v % 3);
-    }
-    if 20 <= kind {
-        return least(v % 2048, limit);
-    }
-    v % (limit % 4611686018427387904 + 1)
 }
 
-fn near_i32(case: u64, what: u64, limit: u64) -> u64 {
-    near(case, what, limit, 2147483647)
-}
-
-fn near_i64(case: u64, what: u64, limit: u64) -> u64 {
-    near(case, what, limit, 4611686018427387903)
-}
-
-fn coin(case: u64, what: u64) -> bool {
-    draw(case, what) / 8 % 2 == 0
-}
-
-// Mostly 0 to 4; once in 32 up to 255.
-fn small(case: u64, what: u64) -> u64 {
-    let v = draw(case, what) / 16;
-    if v % 32 == 0 {
-        v / 32 % 256
-    } else {
-        v / 32 % 5
-    }
+// Mostly 0 to n - 1, n at most 8; once in 32 up to 255.
+fn small(case: u64, what: u64, n: u64) -> u64 {
+    let v = draw(case, what);
+    pick(v % 32 == 0, v / 32 % 256, v / 32 % (n % 8 + 1))
 }
 
 // Any second, or one near midnight, near the last one, or near 0.
 pub(crate) fn second(case: u64, what: u64) -> u64 {
-    let kind = draw(case, what) % 8;
-    let v = wide(case, plus(what, 1));
-    if kind < 4 {
-        return minus(v / 16 % 49711 * 86400 + 2, v % 5);
+    let v = wide(case, what);
+    match draw(case, plus(what, 500)) % 8 {
+        0 => minus(4294967295, v % 3),
+        1 => v % 3,
+        2 | 3 => v % 4294967296,
+        _ => minus(v / 16 % 49711 * 86400 + 2, v % 5),
     }
-    if kind == 4 {
-        return minus(4294967295, v % 3);
-    }
-    if kind == 5 {
-        return v % 3;
-    }
-    v % 4294967296
 }
 
 // Any microsecond, or one from which a tick can roll over or just not.
-fn micros(case: u64, what: u64) -> u64 {
-    if coin(case, plus(what, 2)) {
-        return near_i32(case, what, 999999);
-    }
-    plus(996088, draw(case, what) % 12)
+fn micros(case: u64) -> u64 {
+    pick(
+        draw(case, 4) % 2 == 0,
+        near(case, 3, 999999, 4294967295),
+        996088 + draw(case, 5) % 12,
+    )
 }
 
 // The second of an earlier update: mostly less than 1,100 before the present one, often about 1,024, or anywhere; 0 mostly where there was
 // none.
-fn earlier(case: u64, what: u64, flag: u64, seconds: u64) -> u64 {
-    let kind = draw(case, what) % 16;
-    let v = wide(case, plus(what, 1));
-    if (flag == 0) & (kind != 0) {
-        return 0;
-    }
-    if kind < 3 {
-        return v % 4294967296;
-    }
-    if kind < 5 {
-        return least(plus(seconds, v % 3), 4294967295);
-    }
-    if kind < 8 {
-        return minus(seconds, 1022 + v % 5);
-    }
-    minus(seconds, v % 1100)
-}
-
-// 0 or 1; once in 32 up to 255.
-fn flag(case: u64, what: u64) -> u64 {
-    let v = draw(case, what) / 16;
-    if v % 32 == 0 {
-        v / 32 % 256
-    } else {
-        v / 32 % 2
+fn earlier(case: u64, flag: u64, seconds: u64) -> u64 {
+    let v = wide(case, 23);
+    match pick(flag == 0, 0, draw(case, 22) % 16) {
+        0 => pick(flag == 0, v % 8 / 7, v % 4294967296),
+        1 | 2 => least(plus(seconds, v % 3), 4294967295),
+        3 | 4 => minus(seconds, 1022 + v % 5),
+        _ => minus(seconds, v % 1100),
     }
 }
 
-// A signed field of a clock; once in 128 -2^31.
-fn field(case: u64, what: u64, negative: bool, limit: u64) -> Signed {
-    if draw(case, what) / 32 % 128 == 0 {
-        with_sign(true, 2147483648)
-    } else {
-        with_sign(negative, near_i32(case, plus(what, 1), limit))
-    }
-}
-
-// A clock, about two of three sound.
+// A clock, about three of five sound.
 pub(crate) fn state(case: u64) -> State {
     let seconds = second(case, 1);
-    let flag = flag(case, 21);
-    let back = coin(case, 19);
-    let limit = pick(back, 168819712, 303037440);
+    let flag = small(case, 21, 1);
     State {
         seconds: seconds,
-        micros: micros(case, 3),
-        phase: field(case, 7, coin(case, 7), 268435455),
-        left: field(case, 10, coin(case, 10), 2097135616),
-        frequency: field(case, 13, coin(case, 13), 1677721600),
-        adjustment: field(case, 16, back, limit),
-        constant: small(case, 20),
+        micros: micros(case),
+        phase: near(case, 7, 536870910, 4294967295),
+        left: near(case, 10, 4194271232, 4294967295),
+        frequency: near(case, 13, 3355443200, 4294967295),
+        adjustment: near(
+            case,
+            16,
+            pick(draw(case, 19) % 2 == 0, 337639423, 606074880),
+            4294967295,
+        ),
+        constant: small(case, 20, 4),
         flag: flag,
-        earlier: earlier(case, 22, flag, seconds),
-        maximum: near_i32(case, 24, 16000000),
-        estimated: near_i32(case, 26, 16000000),
-        status: small(case, 28),
+        earlier: earlier(case, flag, seconds),
+        maximum: near(case, 24, 16000000, 4294967295),
+        estimated: near(case, 26, 16000000, 4294967295),
+        status: small(case, 28, 4),
     }
 }
 
-// Once in 64 the largest number of 64 bits.
-fn or_largest(case: u64, what: u64, n: u64) -> u64 {
-    if draw(case, what) / 32 % 64 == 0 {
-        18446744073709551615
-    } else {
-        n
-    }
+// An argument of 64 bits; once in 64 the largest, which is mapped to -2^63.
+fn argument(case: u64, what: u64, limit: u64) -> u64 {
+    let n = near(case, what, limit, 4611686018427387903);
+    pick(
+        draw(case, plus(what, 200)) % 64 == 0,
+        18446744073709551615,
+        n,
+    )
 }
 
-// Once in 64 -2^63.
-fn or_lowest(case: u64, what: u64, n: Signed) -> Signed {
-    if draw(case, what) / 32 % 64 == 0 {
-        with_sign(true, 9223372036854775808)
-    } else {
-        n
-    }
+pub(crate) struct Asked {
+    pub(crate) mode: u64,
+    pub(crate) offset: u64,
+    pub(crate) frequency: u64,
+    pub(crate) maximum: u64,
+    pub(crate) estimated: u64,
+    pub(crate) status: u64,
+    pub(crate) constant: u64,
 }
 
-fn mode(case: u64, what: u64) -> u64 {
-    let kind = draw(case, what) % 32;
-    let v = wide(case, plus(what, 1));
-    if kind == 0 {
-        return v;
-    }
-    if kind == 1 {
-        return plus(64, v % 64);
-    }
-    v % 64
-}
-
-// A request.
-pub(crate) fn asked(case: u64) -> Asked {
-    let offset = with_sign(coin(case, 43), near_i64(case, 44, 127999));
-    let frequency = with_sign(coin(case, 46), near_i64(case, 47, 1677721600));
+// A request, its offset and frequency mapped.
+pub(crate) fn some_request(case: u64) -> Asked {
     Asked {
-        mode: or_largest(case, 40, mode(case, 41)),
-        offset: or_lowest(case, 60, offset),
-        frequency: or_lowest(case, 61, frequency),
-        maximum: or_largest(case, 62, near_i64(case, 49, 16000000)),
-        estimated: or_largest(case, 63, near_i64(case, 51, 16000000)),
-        status: or_largest(case, 64, small(case, 53)),
-        constant: or_largest(case, 65, small(case, 54)),
+        mode: argument(case, 41, 63),
+        offset: argument(case, 44, 255998),
+        frequency: argument(case, 47, 3355443198),
+        maximum: argument(case, 49, 16000000),
+        estimated: argument(case, 51, 16000000),
+        status: argument(case, 53, 4),
+        constant: argument(case, 55, 4),
     }
 }
 
-// The seconds of a setting.
+// The seconds of a setting; once in 16 too large by 2^32.
 pub(crate) fn set_second(case: u64) -> u64 {
-    let n = second(case, 70);
-    or_largest(
-        case,
-        72,
-        pick(draw(case, 73) % 16 == 0, plus(4294967296, n), n),
+    plus(
+        second(case, 70),
+        pick(draw(case, 73) % 16 == 0, 4294967296, 0),
     )
 }
 
 // The microseconds of a setting.
 pub(crate) fn set_micros(case: u64) -> u64 {
-    or_largest(case, 75, near_i64(case, 76, 999999))
+    argument(case, 76, 999999)
+}
+
+// An event of the code: its numbers as they stand in a history.
+pub(crate) fn row(case: u64, code: u64) -> [u64; 13] {
+    match code {
+        1 => [
+            1,
+            set_second(case),
+            set_micros(case),
+            0,
+            0,
+            0,
+            0,
+            0,
+            0,
+            0,
+            0,
+            0,
+            0,
+        ],
+        2 => request_row(some_request(case)),
+        _ => [code, 0, 0, 0, 0, 0, 0, 0, 0, 0, 0, 0, 0],
+    }
+}
+
+fn request_row(a: Asked) -> [u64; 13] {
+    [
+        2,
+        a.mode,
+        a.offset,
+        a.frequency,
+        a.maximum,
+        a.estimated,
+        a.status,
+        a.constant,
+        0,
+        0,
+        0,
+        0,
+        0,
+    ]
+}
+
+// Bytes: any, or many of them 0, 127, 128 or 255, or many with the top bit.
+pub(crate) fn some_bytes(case: u64) -> [u8; 64] {
+    let mut b = [0u8; 64];
+    let kind = draw(case, 300) % 4;
+    let mut k: usize = 0;
+    while k < 64 {
+        let v = draw(case, 310 + k as u64);
+        b[k] = some_byte(pick(v % 2 == 0, 0, kind), v / 2);
+        k += 1;
+    }
+    b
+}
+
+fn some_byte(kind: u64, v: u64) -> u8 {
+    match kind {
+        2 => (v % 2 * 128 + v / 2 % 2 * 127) as u8,
+        3 => (v % 128 + 128) as u8,
+        _ => (v % 256) as u8,
+    }
+}
+
+// A lent part of bytes: the first `end`.
+pub(crate) struct Bytes {
+    pub(crate) bytes: [u8; 64],
+    pub(crate) end: usize,
+}
+
+// The bytes as they are, or with one changed, or with the end elsewhere.
+pub(crate) fn damaged(b: Bytes, case: u64) -> Bytes {
+    let v = draw(case, 290);
+    let k = (v / 16 % 64) as usize;
+    let mut bytes = b.bytes;
+    let mut end = b.end;
+    match v % 8 {
+        0 | 1 => bytes[k] = some_byte(v % 2 * 2, v / 1024),
+        2 => bytes[k] = bytes[k] % 128 + 128,
+        3 => end = k + 1,
+        4 => end = end % 64 + 1,
+        _ => (),
+    }
+    Bytes {
+        bytes: bytes,
+        end: end % 65,
+    }
 }

@@ -1,25 +1,23 @@
-// Document 01's events, a second time: ticks, rollovers, settings, requests and readings, by sign and size.
+// Document 01's state and events, a second time: ticks, rollovers, settings and requests, by sign and size. Signed fields are held as the
+// numbers that they are mapped to.
 use crate::signed::Signed;
 use crate::signed::halved;
 use crate::signed::least;
+use crate::signed::mapped;
 use crate::signed::minus;
-use crate::signed::opposite;
 use crate::signed::pick;
 use crate::signed::plus;
-use crate::signed::scaled;
 use crate::signed::sum;
-use crate::signed::times;
-use crate::signed::with_sign;
-use crate::signed::zero;
+use crate::signed::unmapped;
 
 // The table of document 01, in its order.
 pub(crate) struct State {
     pub(crate) seconds: u64,
     pub(crate) micros: u64,
-    pub(crate) phase: Signed,
-    pub(crate) left: Signed,
-    pub(crate) frequency: Signed,
-    pub(crate) adjustment: Signed,
+    pub(crate) phase: u64,
+    pub(crate) left: u64,
+    pub(crate) frequency: u64,
+    pub(crate) adjustment: u64,
     pub(crate) constant: u64,
     pub(crate) flag: u64,
     pub(crate) earlier: u64,
@@ -33,34 +31,14 @@ pub(crate) struct Answer {
     pub(crate) state: State,
 }
 
-pub(crate) struct Asked {
-    pub(crate) mode: u64,
-    pub(crate) offset: Signed,
-    pub(crate) frequency: Signed,
-    pub(crate) maximum: u64,
-    pub(crate) estimated: u64,
-    pub(crate) status: u64,
-    pub(crate) constant: u64,
-}
-
-// Which fields a mode selects.
-struct Chosen {
-    offset: bool,
-    frequency: bool,
-    maximum: bool,
-    estimated: bool,
-    status: bool,
-    constant: bool,
-}
-
 pub(crate) fn fresh() -> State {
     State {
         seconds: 0,
         micros: 0,
-        phase: zero(),
-        left: zero(),
-        frequency: zero(),
-        adjustment: with_sign(false, 67108864),
+        phase: 0,
+        left: 0,
+        frequency: 0,
+        adjustment: 134217728,
         constant: 0,
         flag: 0,
         earlier: 0,
@@ -70,277 +48,243 @@ pub(crate) fn fresh() -> State {
     }
 }
 
-fn within(a: Signed, below: u64, above: u64) -> bool {
-    a.size <= pick(a.negative, below, above)
+// The numbers of a state's record.
+pub(crate) fn row_of(s: State) -> [u64; 13] {
+    [
+        1,
+        s.seconds,
+        s.micros,
+        s.phase,
+        s.left,
+        s.frequency,
+        s.adjustment,
+        s.constant,
+        s.flag,
+        s.earlier,
+        s.maximum,
+        s.estimated,
+        s.status,
+    ]
+}
+
+// The largest number at each place of a record. A field from -m to m is mapped to 0 to 2m.
+fn most_of(row: &[u64; 13]) -> [u64; 13] {
+    [
+        1,
+        4294967295,
+        999999,
+        536870910,
+        4194271232,
+        3355443200,
+        pick(row[6] % 2 == 1, 337639423, 606074880),
+        4,
+        1,
+        row[8] % 2 * 4294967295,
+        16000000,
+        16000000,
+        4,
+    ]
+}
+
+// Whether the first `count` numbers of a record are in range, the version known.
+pub(crate) fn fits(row: &[u64; 13], count: usize) -> bool {
+    let most = most_of(row);
+    let mut ok = (count == 0) | (row[0] == 1);
+    let mut k: usize = 0;
+    while k < 13 {
+        ok = ok & ((count <= k) | (row[k] <= most[k]));
+        k += 1;
+    }
+    ok
 }
 
 pub(crate) fn sound(s: State) -> bool {
-    (s.seconds < 4294967296)
-        & (s.micros < 1000000)
-        & (s.phase.size < 268435456)
-        & (s.left.size <= 2097135616)
-        & (s.frequency.size <= 1677721600)
-        & within(s.adjustment, 168819712, 303037440)
-        & (s.constant <= 4)
-        & ((s.flag == 1) | ((s.flag == 0) & (s.earlier == 0)))
-        & (s.earlier < 4294967296)
-        & (s.maximum <= 16000000)
-        & (s.estimated <= 16000000)
-        & (s.status <= 4)
+    let row = row_of(s);
+    fits(&row, 13)
 }
 
-fn adjustment_of(share: Signed, frequency: Signed) -> Signed {
-    let slew = with_sign(share.negative, share.size % 4294967296 * 64);
-    let drift = with_sign(frequency.negative, frequency.size / 16);
-    sum(sum(slew, drift), with_sign(false, 67108864))
+fn number_of(negative: bool, size: u64) -> u64 {
+    mapped(Signed {
+        negative: negative,
+        size: size,
+    })
 }
 
-fn share_of(left: Signed, constant: u64) -> Signed {
-    with_sign(left.negative, halved(left.size / 1024, constant))
+// 64 x share + frequency / 16 + 67,108,864.
+fn adjustment_of(negative: bool, share: u64, frequency: u64) -> u64 {
+    let slew = Signed {
+        negative: negative,
+        size: share % 4294967296 * 64,
+    };
+    let f = unmapped(frequency);
+    let drift = Signed {
+        negative: f.negative,
+        size: f.size / 16,
+    };
+    mapped(sum(sum(slew, drift), unmapped(134217728)))
 }
 
-fn leap_second(second: u64, status: u64) -> u64 {
-    if (status == 1) & (second % 86400 == 0) {
-        return minus(second, 1);
-    }
-    if (status == 2) & (second % 86400 == 86399) {
-        return plus(second, 1);
-    }
-    second
-}
-
-fn leap_status(second: u64, status: u64) -> u64 {
-    if (status == 1) & (second % 86400 == 0) {
-        return 3;
-    }
-    if (status == 2) & (second % 86400 == 86399) {
-        return 0;
-    }
-    if status == 3 {
-        return 0;
-    }
-    status
+// The second that a rollover has reached, with its leap step, in `seconds` and `status`.
+fn leapt(s: State) -> State {
+    let of_day = s.seconds % 86400;
+    let inserts = (s.status == 1) & (of_day == 0);
+    let deletes = (s.status == 2) & (of_day == 86399);
+    let mut t = s;
+    t.seconds = minus(plus(s.seconds, pick(deletes, 1, 0)), pick(inserts, 1, 0));
+    t.status = pick(inserts, 3, pick(deletes | (s.status == 3), 0, s.status));
+    t
 }
 
 fn rolled(s: State) -> State {
-    let second = plus(s.seconds, 1);
-    let share = share_of(s.left, s.constant);
-    State {
-        seconds: leap_second(second, s.status),
-        maximum: least(plus(s.maximum, 100), 16000000),
-        left: sum(s.left, opposite(share)),
-        adjustment: adjustment_of(share, s.frequency),
-        status: leap_status(second, s.status),
-        ..s
+    let left = unmapped(s.left);
+    let share = halved(left.size / 1024, s.constant);
+    let mut t = s;
+    t.seconds = plus(s.seconds, 1);
+    t.micros = minus(s.micros, 1000000);
+    t.maximum = least(plus(s.maximum, 100), 16000000);
+    t.left = number_of(left.negative, minus(left.size, share));
+    t.adjustment = adjustment_of(left.negative, share, s.frequency);
+    leapt(t)
+}
+
+fn answered(refusal: u64, s: State) -> Answer {
+    Answer {
+        refusal: refusal,
+        state: s,
     }
 }
 
+// One tick of a sound clock.
 pub(crate) fn tick(s: State) -> Answer {
-    if !sound(s) {
-        return Answer {
-            refusal: 1,
-            state: s,
-        };
-    }
-    let moved = sum(s.phase, s.adjustment);
+    let moved = sum(unmapped(s.phase), unmapped(s.adjustment));
     let whole = moved.size / 268435456;
-    let rest = with_sign(moved.negative, moved.size % 268435456);
     let grown = plus(s.micros, 3906);
-    let micros = pick(moved.negative, minus(grown, whole), plus(grown, whole));
-    if micros < 1000000 {
-        return Answer {
-            refusal: 0,
-            state: State {
-                micros: micros,
-                phase: rest,
-                ..s
-            },
-        };
+    let mut t = s;
+    t.micros = pick(moved.negative, minus(grown, whole), plus(grown, whole));
+    t.phase = number_of(moved.negative, moved.size % 268435456);
+    if t.micros < 1000000 {
+        return answered(0, t);
     }
     if s.seconds == 4294967295 {
-        return Answer {
-            refusal: 3,
-            state: s,
-        };
+        return answered(3, s);
     }
-    Answer {
-        refusal: 0,
-        state: rolled(State {
-            micros: minus(micros, 1000000),
-            phase: rest,
-            ..s
-        }),
-    }
+    answered(0, rolled(t))
 }
 
-pub(crate) fn set(s: State, seconds: u64, micros: u64) -> Answer {
-    if !sound(s) {
-        return Answer {
-            refusal: 1,
-            state: s,
-        };
-    }
+fn set(s: State, seconds: u64, micros: u64) -> Answer {
     if (4294967295 < seconds) | (999999 < micros) {
-        return Answer {
-            refusal: 2,
-            state: s,
-        };
+        return answered(2, s);
     }
-    let f = s.frequency;
-    let f2 = s.frequency;
-    Answer {
-        refusal: 0,
-        state: State {
-            seconds: seconds,
-            micros: micros,
-            frequency: f,
-            adjustment: adjustment_of(zero(), f2),
-            constant: s.constant,
-            ..fresh()
-        },
+    let mut t = fresh();
+    t.seconds = seconds;
+    t.micros = micros;
+    t.frequency = s.frequency;
+    t.constant = s.constant;
+    t.adjustment = adjustment_of(false, 0, s.frequency);
+    answered(0, t)
+}
+
+// The request's number at `k` where its mode has the bit, else the old one.
+fn chosen(row: &[u64; 13], k: usize, bit: u64, old: u64) -> u64 {
+    if (row[1] & bit) == 0 {
+        old
+    } else {
+        row[k % 13]
     }
 }
 
-fn selected(mode: u64) -> Chosen {
-    let a = mode / 2;
-    let b = a / 2;
-    let c = b / 2;
-    let d = c / 2;
-    let e = d / 2;
-    Chosen {
-        offset: mode % 2 == 1,
-        frequency: a % 2 == 1,
-        maximum: b % 2 == 1,
-        estimated: c % 2 == 1,
-        status: d % 2 == 1,
-        constant: e % 2 == 1,
-    }
-}
-
-// The lowest of 4 to 9 that applies, or 0.
-fn judged(r: Asked, w: Chosen) -> u64 {
-    if 63 < r.mode {
+// The lowest of 4 to 9 that applies, or 0. A request is a row: code, mode, then the fields in order of mode bit.
+fn judged(row: &[u64; 13]) -> u64 {
+    if 63 < row[1] {
         return 4;
     }
-    if w.offset & (127999 < r.offset.size) {
-        return 5;
-    }
-    if w.frequency & (1677721600 <= r.frequency.size) {
-        return 6;
-    }
-    if (w.maximum & (16000000 < r.maximum)) | (w.estimated & (16000000 < r.estimated)) {
-        return 7;
-    }
-    if w.status & (4 < r.status) {
-        return 8;
-    }
-    if w.constant & (4 < r.constant) {
-        return 9;
-    }
-    0
-}
-
-fn interval_of(s: State) -> u64 {
-    if s.flag == 0 {
-        return 0;
-    }
-    least(minus(s.seconds, s.earlier), 1024)
-}
-
-fn gained(frequency: Signed, offset: Signed, interval: u64, constant: u64) -> Signed {
-    let gain = halved(halved(times(offset.size, interval), constant), constant);
-    let f = sum(frequency, with_sign(offset.negative, gain));
-    with_sign(f.negative, least(f.size, 1677721600))
-}
-
-fn either(first: bool, a: Signed, b: Signed) -> Signed {
-    if first { a } else { b }
+    let mut refusal = pick(4 < chosen(row, 7, 32, 0), 9, 0);
+    refusal = pick(4 < chosen(row, 6, 16, 0), 8, refusal);
+    refusal = pick(16000000 < chosen(row, 5, 8, 0), 7, refusal);
+    refusal = pick(16000000 < chosen(row, 4, 4, 0), 7, refusal);
+    refusal = pick(3355443198 < chosen(row, 3, 2, 0), 6, refusal);
+    pick(255998 < chosen(row, 2, 1, 0), 5, refusal)
 }
 
 // Frequency, errors, status and time constant.
-fn plain_effects(s: State, r: Asked, w: Chosen) -> State {
-    let writes = w.status & ((s.status == 0) | (r.status == 4));
-    State {
-        frequency: either(w.frequency, r.frequency, s.frequency),
-        maximum: pick(w.maximum, r.maximum, s.maximum),
-        estimated: pick(w.estimated, r.estimated, s.estimated),
-        status: pick(writes, r.status, s.status),
-        constant: pick(w.constant, r.constant, s.constant),
-        ..s
-    }
+fn plain_effects(s: State, row: &[u64; 13]) -> State {
+    let status = chosen(row, 6, 16, s.status);
+    let mut t = s;
+    t.frequency = chosen(row, 3, 2, s.frequency);
+    t.maximum = chosen(row, 4, 4, s.maximum);
+    t.estimated = chosen(row, 5, 8, s.estimated);
+    t.status = pick((s.status == 0) | (status == 4), status, s.status);
+    t.constant = chosen(row, 7, 32, s.constant);
+    t
 }
 
-fn offset_effects(s: State, offset: Signed, writes_bad: bool) -> State {
-    State {
-        left: scaled(offset),
-        frequency: gained(s.frequency, offset, interval_of(s), s.constant),
-        flag: 1,
-        earlier: s.seconds,
-        status: pick((s.status == 4) & !writes_bad, 0, s.status),
-        ..s
-    }
+fn interval_of(s: State) -> u64 {
+    pick(s.flag == 0, 0, least(minus(s.seconds, s.earlier), 1024))
 }
 
-pub(crate) fn adjust(s: State, r: Asked) -> Answer {
-    if !sound(s) {
-        return Answer {
-            refusal: 1,
-            state: s,
-        };
-    }
-    let w = selected(r.mode);
-    let refusal = judged(r, w);
+fn times(a: u64, b: u64) -> u64 {
+    a % 131072 * (b % 2048)
+}
+
+// The frequency with the gain of an offset, of which `size` is the size.
+fn gained(s: State, negative: bool, size: u64) -> u64 {
+    let product = times(size, interval_of(s));
+    let gain = Signed {
+        negative: negative,
+        size: halved(halved(product, s.constant), s.constant),
+    };
+    let f = sum(unmapped(s.frequency), gain);
+    number_of(f.negative, least(f.size, 1677721600))
+}
+
+fn offset_effects(s: State, n: u64, writes_bad: bool) -> State {
+    let offset = unmapped(n);
+    let mut t = s;
+    t.left = number_of(offset.negative, offset.size % 131072 * 16384);
+    t.frequency = gained(s, offset.negative, offset.size);
+    t.flag = 1;
+    t.earlier = s.seconds;
+    t.status = pick((s.status == 4) & !writes_bad, 0, s.status);
+    t
+}
+
+fn adjust(s: State, row: &[u64; 13]) -> Answer {
+    let refusal = judged(row);
     if refusal != 0 {
-        return Answer {
-            refusal: refusal,
-            state: s,
-        };
+        return answered(refusal, s);
     }
-    let t = plain_effects(s, r, w);
-    if !w.offset {
-        return Answer {
-            refusal: 0,
-            state: t,
-        };
+    let t = plain_effects(s, row);
+    if row[1] % 2 == 0 {
+        return answered(0, t);
     }
-    let writes_bad = w.status & (r.status == 4);
-    Answer {
-        refusal: 0,
-        state: offset_effects(t, r.offset, writes_bad),
-    }
+    answered(0, offset_effects(t, row[2], chosen(row, 6, 16, 0) == 4))
 }
 
-pub(crate) struct Shown {
-    pub(crate) refusal: u64,
-    pub(crate) seconds: u64,
-    pub(crate) micros: u64,
-    pub(crate) status: u64,
-    pub(crate) maximum: u64,
-    pub(crate) estimated: u64,
-}
-
-// A refused reading: zeros and status 4.
-pub(crate) fn read_nothing(refusal: u64) -> Shown {
-    Shown {
-        refusal: refusal,
-        seconds: 0,
-        micros: 0,
-        status: 4,
-        maximum: 0,
-        estimated: 0,
-    }
-}
-
-pub(crate) fn read(s: State) -> Shown {
+// An event on a clock: code 0 one tick, 1 a setting, 2 a request, 3 a reading.
+pub(crate) fn step(s: State, row: &[u64; 13]) -> Answer {
     if !sound(s) {
-        return read_nothing(1);
+        return answered(1, s);
     }
-    Shown {
-        refusal: 0,
-        seconds: s.seconds,
-        micros: s.micros,
-        status: s.status,
-        maximum: s.maximum,
-        estimated: s.estimated,
+    let code = row[0];
+    if code == 0 {
+        return tick(s);
     }
+    if code == 1 {
+        return set(s, row[1], row[2]);
+    }
+    if code == 2 {
+        return adjust(s, row);
+    }
+    answered(0, s)
+}
+
+// What an event shows: the state that an accepted reading tells of, else zeros and status 4.
+pub(crate) fn shown(a: Answer, code: u64) -> State {
+    if (code == 3) & (a.refusal == 0) {
+        return a.state;
+    }
+    let mut none = fresh();
+    none.maximum = 0;
+    none.estimated = 0;
+    none
 }

@@ -3,6 +3,8 @@ use Prim.Native.Nat.{_-_, _≤_}
 use borrow.Author.Needs.{needs}
 use Rattle.cross_check.proofs.dates.days_to_month.Statement.{statement}
 use Rattle.cross_check.proofs.dates.days_to_month.Tie as tie
+use Rattle.cross_check.proofs.dates.month_days.Reads as month-days-reads
+use Rattle.cross_check.proofs.signed.plus.Reads as plus-reads
 
 abbrev Inv-loop : tie.InvT-loop
 Inv-loop year month m₀ days₀ m days = 1 ≤ m

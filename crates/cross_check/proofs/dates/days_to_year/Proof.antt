@@ -3,6 +3,8 @@ use Prim.Native.Nat.{_-_, _≤_}
 use borrow.Author.Needs.{needs}
 use Rattle.cross_check.proofs.dates.days_to_year.Statement.{statement}
 use Rattle.cross_check.proofs.dates.days_to_year.Tie as tie
+use Rattle.cross_check.proofs.dates.year_days.Reads as year-days-reads
+use Rattle.cross_check.proofs.signed.plus.Reads as plus-reads
 
 abbrev Inv-loop : tie.InvT-loop
 Inv-loop year y₀ days₀ y days = 1970 ≤ y

@@ -1,35 +1,32 @@
--- `cross_check::form::followers` ends: how many bytes say that more follows: at most five are looked at.
+-- `cross_check::form::followers` ends: at most five bytes are looked at.
 use Prim.Native.Nat.{_-_, _≤_}
 use borrow.Author.Needs.{needs}
 use Rattle.cross_check.proofs.form.followers.Statement.{statement}
 use Rattle.cross_check.proofs.form.followers.Tie as tie
 
 abbrev Inv-loop : tie.InvT-loop
-Inv-loop bytes end at k₀ k = k ≤ 5
+Inv-loop bytes end at room k₀ k = k ≤ 5
 
 abbrev μ-loop : tie.MeasureT-loop
-μ-loop bytes end at k₀ k = 5 - k
-
-loop-holds : tie.Need-loop-holds Inv-loop μ-loop
-loop-holds c = search needs
+μ-loop bytes end at room k₀ k = 5 - k
 
 returns : tie.Need-returns Inv-loop μ-loop
 returns c = search needs
 
-sub-if2 : tie.Need-sub-if2 Inv-loop μ-loop
-sub-if2 c = search needs
+sub-room : tie.Need-sub-room Inv-loop μ-loop
+sub-room c = search needs
+
+loop-holds : tie.Need-loop-holds Inv-loop μ-loop
+loop-holds c = search needs
 
 returns-2 : tie.Need-returns-2 Inv-loop μ-loop
 returns-2 c = search needs
 
-add-wide : tie.Need-add-wide Inv-loop μ-loop
-add-wide c = search needs
+add-if3 : tie.Need-add-if3 Inv-loop μ-loop
+add-if3 c = search needs
 
-element-copy-out-wide : tie.Need-element-copy-out-wide Inv-loop μ-loop
-element-copy-out-wide c = search needs
-
-wide-requires : tie.Need-wide-requires Inv-loop μ-loop
-wide-requires c κs = search needs
+element-copy-out-if3 : tie.Need-element-copy-out-if3 Inv-loop μ-loop
+element-copy-out-if3 c = search needs
 
 returns-3 : tie.Need-returns-3 Inv-loop μ-loop
 returns-3 c = search needs
@@ -52,13 +49,12 @@ followers-spec =
     (tie.spec
     Inv-loop
     μ-loop
-    loop-holds
     returns
-    sub-if2
+    sub-room
+    loop-holds
     returns-2
-    add-wide
-    element-copy-out-wide
-    wide-requires
+    add-if3
+    element-copy-out-if3
     returns-3
     add-k
     loop-less

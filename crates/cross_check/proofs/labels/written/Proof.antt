@@ -1,18 +1,33 @@
--- `cross_check::labels::written` is safe: the part that is lent to the writer is as long as it says.
+-- `cross_check::labels::written` is safe: the part that is lent is as long as it says.
 use native.Mathlib.Omega.{arith}
 use lib.ListN.{length-take}
 use borrow.Author.Needs.{needs}
+use borrow.Author.Needs.{needs}
 use Rattle.cross_check.proofs.labels.written.Statement.{statement}
 use Rattle.cross_check.proofs.labels.written.Tie as tie
+use Rattle.cross_check.proofs.dates.clock_stamp.Reads as clock-stamp-reads
+use Rattle.cross_check.proofs.dates.filled.Reads as filled-reads
+use Rattle.cross_check.proofs.first.clock_of.Reads as clock-of-reads
+use Rattle.cross_check.proofs.first.same_byte.Reads as same-byte-reads
+use Rattle.cross_check.proofs.first.stands.Reads as stands-reads
+use Rattle.cross_check.proofs.rules.sound.Reads as sound-reads
+use Rattle.cross_check.proofs.signed.pick.Reads as pick-reads
+use Rattle.label.proofs.write.Reads as write-reads
 
-write-refusal-requires : tie.Need-write-refusal-requires
-write-refusal-requires c κs = search needs
+pick-requires : tie.Need-pick-requires
+pick-requires c κs = search needs
 
-shows-sixty-requires : tie.Need-shows-sixty-requires
-shows-sixty-requires c κs = search needs
+sound-requires : tie.Need-sound-requires
+sound-requires c κs = search needs
 
-label-of-requires : tie.Need-label-of-requires
-label-of-requires c κs = search needs
+pick-requires-2 : tie.Need-pick-requires-2
+pick-requires-2 c κs = search needs
+
+clock-stamp-requires : tie.Need-clock-stamp-requires
+clock-stamp-requires c κs = search needs
+
+filled-requires : tie.Need-filled-requires
+filled-requires c κs = search needs
 
 clock-of-requires : tie.Need-clock-of-requires
 clock-of-requires c κs = search needs
@@ -26,11 +41,17 @@ slice-aggregate-write c = simp length-take (omega arith)
 write-requires : tie.Need-write-requires
 write-requires c κs = search needs
 
+pick-requires-3 : tie.Need-pick-requires-3
+pick-requires-3 c κs = search needs
+
 same-byte-requires : tie.Need-same-byte-requires
 same-byte-requires c κs = search needs
 
-same-bytes-requires : tie.Need-same-bytes-requires
-same-bytes-requires c κs = search needs
+slice-aggregate-stands : tie.Need-slice-aggregate-stands
+slice-aggregate-stands c = search needs
+
+stands-requires : tie.Need-stands-requires
+stands-requires c κs = search needs
 
 returns : tie.Need-returns
 returns c = search needs
@@ -39,13 +60,17 @@ pub written-spec : {M : Type 1} → statement M
 written-spec =
     tie.close
     (tie.spec
-    write-refusal-requires
-    shows-sixty-requires
-    label-of-requires
+    pick-requires
+    sound-requires
+    pick-requires-2
+    clock-stamp-requires
+    filled-requires
     clock-of-requires
     array-borrow-prefix-buf
     slice-aggregate-write
     write-requires
+    pick-requires-3
     same-byte-requires
-    same-bytes-requires
+    slice-aggregate-stands
+    stands-requires
     returns)

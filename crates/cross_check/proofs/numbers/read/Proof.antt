@@ -1,21 +1,31 @@
--- `cross_check::numbers::read` is safe: the part that is lent to the reader is as long as it says.
+-- `cross_check::numbers::read` is safe: the part that is lent is as long as it says.
 use native.Mathlib.Omega.{arith}
 use lib.ListN.{length-take}
 use borrow.Author.Needs.{needs}
+use borrow.Author.Needs.{needs}
 use Rattle.cross_check.proofs.numbers.read.Statement.{statement}
 use Rattle.cross_check.proofs.numbers.read.Tie as tie
+use Rattle.cross_check.proofs.first.same_byte.Reads as same-byte-reads
+use Rattle.cross_check.proofs.form.read.Reads as form-read-reads
+use Rattle.cross_check.proofs.numbers.some_place.Reads as some-place-reads
+use Rattle.cross_check.proofs.random.draw.Reads as draw-reads
+use Rattle.cross_check.proofs.random.some_bytes.Reads as some-bytes-reads
+use Rattle.number.proofs.decode.read.Reads as decode-read-reads
 
 some-bytes-requires : tie.Need-some-bytes-requires
 some-bytes-requires c κs = search needs
 
-draw-requires : tie.Need-draw-requires
-draw-requires c κs = search needs
-
 some-place-requires : tie.Need-some-place-requires
 some-place-requires c κs = search needs
 
+draw-requires : tie.Need-draw-requires
+draw-requires c κs = search needs
+
 read-requires : tie.Need-read-requires
 read-requires c κs = search needs
+
+add-next : tie.Need-add-next
+add-next c = search needs
 
 array-share-prefix-bytes : tie.Need-array-share-prefix-bytes
 array-share-prefix-bytes c = search needs
@@ -28,9 +38,6 @@ read-requires-2 c κs = search needs
 
 enum-known-value : tie.Need-enum-known-value
 enum-known-value c = search needs
-
-add-t23 : tie.Need-add-t23
-add-t23 c = search needs
 
 enum-known-n : tie.Need-enum-known-n
 enum-known-n c = search needs
@@ -49,14 +56,14 @@ read-spec =
     tie.close
     (tie.spec
     some-bytes-requires
-    draw-requires
     some-place-requires
+    draw-requires
     read-requires
+    add-next
     array-share-prefix-bytes
     slice-aggregate-read
     read-requires-2
     enum-known-value
-    add-t23
     enum-known-n
     same-byte-requires
     returns

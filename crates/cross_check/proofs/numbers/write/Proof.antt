@@ -1,9 +1,22 @@
--- `cross_check::numbers::write` is safe: the part that is lent to the writer is as long as it says.
+-- `cross_check::numbers::write` is safe: the part that is lent is as long as it says.
 use native.Mathlib.Omega.{arith}
 use lib.ListN.{length-take}
 use borrow.Author.Needs.{needs}
+use borrow.Author.Needs.{needs}
 use Rattle.cross_check.proofs.numbers.write.Statement.{statement}
 use Rattle.cross_check.proofs.numbers.write.Tie as tie
+use Rattle.cross_check.proofs.first.byte.Reads as byte-reads
+use Rattle.cross_check.proofs.numbers.agree.Reads as agree-reads
+use Rattle.cross_check.proofs.numbers.laid.Reads as laid-reads
+use Rattle.cross_check.proofs.numbers.refusal_of.Reads as refusal-of-reads
+use Rattle.cross_check.proofs.numbers.some_place.Reads as some-place-reads
+use Rattle.cross_check.proofs.numbers.some_room.Reads as some-room-reads
+use Rattle.cross_check.proofs.numbers.some_words.Reads as some-words-reads
+use Rattle.cross_check.proofs.random.draw.Reads as draw-reads
+use Rattle.number.proofs.encode.write.Reads as write-reads
+
+some-words-requires : tie.Need-some-words-requires
+some-words-requires c κs = search needs
 
 draw-requires : tie.Need-draw-requires
 draw-requires c κs = search needs
@@ -11,20 +24,14 @@ draw-requires c κs = search needs
 byte-requires : tie.Need-byte-requires
 byte-requires c κs = search needs
 
-draw-requires-2 : tie.Need-draw-requires-2
-draw-requires-2 c κs = search needs
-
 some-place-requires : tie.Need-some-place-requires
 some-place-requires c κs = search needs
 
-some-number-requires : tie.Need-some-number-requires
-some-number-requires c κs = search needs
+some-room-requires : tie.Need-some-room-requires
+some-room-requires c κs = search needs
 
-size-of-requires : tie.Need-size-of-requires
-size-of-requires c κs = search needs
-
-room-refusal-requires : tie.Need-room-refusal-requires
-room-refusal-requires c κs = search needs
+laid-requires : tie.Need-laid-requires
+laid-requires c κs = search needs
 
 array-borrow-prefix-buf : tie.Need-array-borrow-prefix-buf
 array-borrow-prefix-buf c = search needs
@@ -32,48 +39,35 @@ array-borrow-prefix-buf c = search needs
 slice-aggregate-write : tie.Need-slice-aggregate-write
 slice-aggregate-write c = simp length-take (omega arith)
 
-word-requires : tie.Need-word-requires
-word-requires c κs = search needs
+array-read-write : tie.Need-array-read-write
+array-read-write c = search needs
 
 write-requires : tie.Need-write-requires
 write-requires c κs = search needs
 
-add-next : tie.Need-add-next
-add-next c = search needs
+refusal-of-requires : tie.Need-refusal-of-requires
+refusal-of-requires c κs = search needs
 
-stands-requires : tie.Need-stands-requires
-stands-requires c κs = search needs
+agree-requires : tie.Need-agree-requires
+agree-requires c κs = search needs
 
 returns : tie.Need-returns
 returns c = search needs
-
-same-byte-requires : tie.Need-same-byte-requires
-same-byte-requires c κs = search needs
-
-stands-requires-2 : tie.Need-stands-requires-2
-stands-requires-2 c κs = search needs
-
-returns-2 : tie.Need-returns-2
-returns-2 c = search needs
 
 pub write-spec : {M : Type 1} → statement M
 write-spec =
     tie.close
     (tie.spec
+    some-words-requires
     draw-requires
     byte-requires
-    draw-requires-2
     some-place-requires
-    some-number-requires
-    size-of-requires
-    room-refusal-requires
+    some-room-requires
+    laid-requires
     array-borrow-prefix-buf
     slice-aggregate-write
-    word-requires
+    array-read-write
     write-requires
-    add-next
-    stands-requires
-    returns
-    same-byte-requires
-    stands-requires-2
-    returns-2)
+    refusal-of-requires
+    agree-requires
+    returns)

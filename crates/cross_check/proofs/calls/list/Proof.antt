@@ -1,0 +1,71 @@
+-- `cross_check::calls::list` ends: one turn for each event.
+use Prim.Native.Nat.{_-_, _≤_}
+use borrow.Author.Needs.{needs}
+use Rattle.cross_check.proofs.calls.list.Statement.{statement}
+use Rattle.cross_check.proofs.calls.list.Tie as tie
+use Rattle.cross_check.proofs.calls.answer_of.Reads as answer-of-reads
+use Rattle.cross_check.proofs.calls.some_code.Reads as some-code-reads
+use Rattle.cross_check.proofs.calls.stepped.Reads as stepped-reads
+use Rattle.cross_check.proofs.rules.fresh.Reads as fresh-reads
+use Rattle.cross_check.proofs.signed.pick.Reads as pick-reads
+
+abbrev Inv-loop : tie.InvT-loop
+Inv-loop case s₀ same₀ refusal₀ k₀ s same refusal k = k ≤ 5000
+
+abbrev μ-loop : tie.MeasureT-loop
+μ-loop case s₀ same₀ refusal₀ k₀ s same refusal k = 5000 - k
+
+fresh-requires : tie.Need-fresh-requires Inv-loop μ-loop
+fresh-requires c κs = search needs
+
+loop-holds : tie.Need-loop-holds Inv-loop μ-loop
+loop-holds c = search needs
+
+mul-c : tie.Need-mul-c Inv-loop μ-loop
+mul-c c = search needs
+
+add-c : tie.Need-add-c Inv-loop μ-loop
+add-c c = search needs
+
+some-code-requires : tie.Need-some-code-requires Inv-loop μ-loop
+some-code-requires c κs = search needs
+
+answer-of-requires : tie.Need-answer-of-requires Inv-loop μ-loop
+answer-of-requires c κs = search needs
+
+stepped-requires : tie.Need-stepped-requires Inv-loop μ-loop
+stepped-requires c κs = search needs
+
+pick-requires : tie.Need-pick-requires Inv-loop μ-loop
+pick-requires c κs = search needs
+
+add-k : tie.Need-add-k Inv-loop μ-loop
+add-k c = search needs
+
+loop-less : tie.Need-loop-less Inv-loop μ-loop
+loop-less c = search needs
+
+loop-again : tie.Need-loop-again Inv-loop μ-loop
+loop-again c = search needs
+
+returns : tie.Need-returns Inv-loop μ-loop
+returns c = search needs
+
+pub list-spec : {M : Type 1} → statement M
+list-spec =
+    tie.close
+    (tie.spec
+    Inv-loop
+    μ-loop
+    fresh-requires
+    loop-holds
+    mul-c
+    add-c
+    some-code-requires
+    answer-of-requires
+    stepped-requires
+    pick-requires
+    add-k
+    loop-less
+    loop-again
+    returns)

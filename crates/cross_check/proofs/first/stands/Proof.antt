@@ -1,0 +1,54 @@
+-- `cross_check::first::stands` ends: every place of the buffer is looked at.
+use Prim.Native.Nat.{_-_, _≤_}
+use borrow.Author.Needs.{needs}
+use Rattle.cross_check.proofs.first.stands.Statement.{statement}
+use Rattle.cross_check.proofs.first.stands.Tie as tie
+
+abbrev Inv-loop : tie.InvT-loop
+Inv-loop buf fill text at size same₀ k₀ same k = k ≤ 64
+
+abbrev μ-loop : tie.MeasureT-loop
+μ-loop buf fill text at size same₀ k₀ same k = 64 - k
+
+loop-holds : tie.Need-loop-holds Inv-loop μ-loop
+loop-holds c = search needs
+
+add-p : tie.Need-add-p Inv-loop μ-loop
+add-p c = search needs
+
+returns : tie.Need-returns Inv-loop μ-loop
+returns c = search needs
+
+shared-slice-read-expected : tie.Need-shared-slice-read-expected Inv-loop μ-loop
+shared-slice-read-expected c = search needs
+
+element-copy-out-same : tie.Need-element-copy-out-same Inv-loop μ-loop
+element-copy-out-same c = search needs
+
+add-k : tie.Need-add-k Inv-loop μ-loop
+add-k c = search needs
+
+loop-less : tie.Need-loop-less Inv-loop μ-loop
+loop-less c = search needs
+
+loop-again : tie.Need-loop-again Inv-loop μ-loop
+loop-again c = search needs
+
+returns-2 : tie.Need-returns-2 Inv-loop μ-loop
+returns-2 c = search needs
+
+pub stands-spec : {M : Type 1} → statement M
+stands-spec =
+    tie.close
+    (tie.spec
+    Inv-loop
+    μ-loop
+    loop-holds
+    add-p
+    returns
+    shared-slice-read-expected
+    element-copy-out-same
+    add-k
+    loop-less
+    loop-again
+    returns-2)

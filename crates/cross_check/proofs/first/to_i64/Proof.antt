@@ -1,0 +1,44 @@
+-- `cross_check::first::to_i64` is safe: -1 less a number below 2^63 fits.
+use Prim.Native.Nat.{_%_}
+use native.Mathlib.Omega.{arith}
+use mir.Syntax.{w64}
+use borrow.Author.Needs.{needs}
+use Rattle.number.proofs.Mapping.{down-fits}
+use borrow.Author.Needs.{needs}
+use Rattle.cross_check.proofs.first.to_i64.Statement.{statement}
+use Rattle.cross_check.proofs.first.to_i64.Tie as tie
+use Rattle.cross_check.proofs.signed.minus.Reads as minus-reads
+use Rattle.cross_check.proofs.signed.unmapped.Reads as unmapped-reads
+
+unmapped-requires : tie.Need-unmapped-requires
+unmapped-requires c κs = search needs
+
+minus-requires : tie.Need-minus-requires
+minus-requires c κs = search needs
+
+cast-result : tie.Need-cast-result
+cast-result c = search needs
+
+sub-result : tie.Need-sub-result
+sub-result c = down-fits w64 {h = c .minus .result % 9223372036854775808} (omega arith)
+
+cast-result-2 : tie.Need-cast-result-2
+cast-result-2 c = search needs
+
+returns : tie.Need-returns
+returns c = search needs
+
+returns-2 : tie.Need-returns-2
+returns-2 c = search needs
+
+pub to-i64-spec : {M : Type 1} → statement M
+to-i64-spec =
+    tie.close
+    (tie.spec
+    unmapped-requires
+    minus-requires
+    cast-result
+    sub-result
+    cast-result-2
+    returns
+    returns-2)

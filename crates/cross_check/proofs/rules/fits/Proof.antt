@@ -1,0 +1,63 @@
+-- `cross_check::rules::fits` ends: one turn for each number.
+use Prim.Native.Nat.{_-_, _≤_}
+use borrow.Author.Needs.{needs}
+use Rattle.cross_check.proofs.rules.fits.Statement.{statement}
+use Rattle.cross_check.proofs.rules.fits.Tie as tie
+use Rattle.cross_check.proofs.rules.most_of.Reads as most-of-reads
+
+abbrev Inv-loop : tie.InvT-loop
+Inv-loop row count most ok₀ k₀ ok k = k ≤ 13
+
+abbrev μ-loop : tie.MeasureT-loop
+μ-loop row count most ok₀ k₀ ok k = 13 - k
+
+most-of-requires : tie.Need-most-of-requires Inv-loop μ-loop
+most-of-requires c κs = search needs
+
+element-copy-out-ok : tie.Need-element-copy-out-ok Inv-loop μ-loop
+element-copy-out-ok c = search needs
+
+loop-holds : tie.Need-loop-holds Inv-loop μ-loop
+loop-holds c = search needs
+
+mul-ok : tie.Need-mul-ok Inv-loop μ-loop
+mul-ok c = search needs
+
+element-copy-out-ok-2 : tie.Need-element-copy-out-ok-2 Inv-loop μ-loop
+element-copy-out-ok-2 c = search needs
+
+mul-ok-2 : tie.Need-mul-ok-2 Inv-loop μ-loop
+mul-ok-2 c = search needs
+
+array-read-ok : tie.Need-array-read-ok Inv-loop μ-loop
+array-read-ok c = search needs
+
+add-k : tie.Need-add-k Inv-loop μ-loop
+add-k c = search needs
+
+loop-less : tie.Need-loop-less Inv-loop μ-loop
+loop-less c = search needs
+
+loop-again : tie.Need-loop-again Inv-loop μ-loop
+loop-again c = search needs
+
+returns : tie.Need-returns Inv-loop μ-loop
+returns c = search needs
+
+pub fits-spec : {M : Type 1} → statement M
+fits-spec =
+    tie.close
+    (tie.spec
+    Inv-loop
+    μ-loop
+    most-of-requires
+    element-copy-out-ok
+    loop-holds
+    mul-ok
+    element-copy-out-ok-2
+    mul-ok-2
+    array-read-ok
+    add-k
+    loop-less
+    loop-again
+    returns)

@@ -1,0 +1,130 @@
+// One history, run by both implementations.
+use crate::calls::Verdict;
+use crate::first::same_byte;
+use crate::first::same_clock;
+use crate::first::stands;
+use crate::form::put_all;
+use crate::random::Bytes;
+use crate::random::draw;
+use crate::replay::Replayed;
+use crate::replay::mask_of;
+use crate::signed::pick;
+
+// Mostly up to 600 ticks, once in 8 up to 4,096.
+fn tick_count(case: u64) -> u64 {
+    let v = draw(case, 600);
+    pick(v % 8 == 0, v / 8 % 4097, v / 8 % 600)
+}
+
+// An event of a history. Small offsets and statuses alone are frequent: they lead a clock to its leap seconds.
+fn some_event(case: u64) -> [u64; 13] {
+    let v = draw(case, 601) / 8;
+    match draw(case, 601) % 8 {
+        0 | 1 => [0, tick_count(case), 0, 0, 0, 0, 0, 0, 0, 0, 0, 0, 0],
+        2 | 3 => crate::random::row(case, 3),
+        4 => crate::random::row(case, 1),
+        5 => [2, 1, v % 4000, 0, 0, 0, 0, 0, 0, 0, 0, 0, 0],
+        6 => [2, 16, 0, 0, 0, 0, v % 4, 0, 0, 0, 0, 0, 0],
+        _ => crate::random::row(case, pick(v % 16 == 0, v / 16 % 256, 2)),
+    }
+}
+
+// As many of sixteen events as 64 bytes hold, some with a code that is none; whole or damaged.
+fn some_history(case: u64) -> Bytes {
+    let mut bytes = crate::random::some_bytes(case);
+    let mut end: usize = 0;
+    let mut k: u64 = 0;
+    while k < 16 {
+        let row = some_event(case % 1048576 * 16 + k);
+        let next = put_all(&mut bytes, end, &row, mask_of(&row));
+        if next <= 64 {
+            end = next;
+        }
+        k += 1;
+    }
+    crate::random::damaged(
+        Bytes {
+            bytes: bytes,
+            end: end,
+        },
+        case,
+    )
+}
+
+// The first implementation's run over the bytes, in calls that lend `room` bytes, beside the second's output and end. With room for no line
+// every call is refused, and leaves the run as it was.
+fn same_run(bytes: &[u8], r: Replayed, out: &[u8; 2048], room: usize) -> bool {
+    let refusal = pick(room < 30, 14, 0);
+    let mut run = playback::run::start();
+    let mut same = true;
+    let mut at: usize = 0;
+    let mut left: u64 = 64;
+    while 0 < left {
+        let mut part = [9u8; 64];
+        let f = playback::run::fill(bytes, run, &mut part[..room % 65]);
+        let n = f.length;
+        same = same & same_byte(refusal, f.refusal) & stands(&part, 9, out, at, n);
+        at = at % 65536 + n % 65536;
+        run = f.run;
+        if run.ended {
+            break;
+        }
+        left -= 1;
+    }
+    same = same & (run.ended == (29 < room)) & (at == r.size);
+    same & (run.place == r.place) & same_clock(r.state, run.clock)
+}
+
+// Once in 16 the buffer is too short.
+fn run_both(bytes: [u8; 64], end: usize, v: u64) -> Verdict {
+    let mut out = [0u8; 2048];
+    if v % 16 == 0 {
+        let r = crate::replay::begun(end);
+        return Verdict {
+            refusal: 14,
+            same: same_run(&bytes[..end % 65], r, &out, (v / 16 % 30) as usize),
+        };
+    }
+    let r = crate::replay::replay(&bytes, end, &mut out);
+    let cut = r.end;
+    Verdict {
+        refusal: r.refusal,
+        same: same_run(&bytes[..cut % 65], r, &out, (30 + v / 16 % 35) as usize),
+    }
+}
+
+// A history of up to 64 bytes.
+pub(crate) fn replay(case: u64) -> Verdict {
+    let b = some_history(case);
+    let bytes = b.bytes;
+    run_both(bytes, b.end, draw(case, 640))
+}
+
+// Where a run over n bytes 1 ends, settings to 1 s 1 us: for more than 65,536 of them, before the first.
+fn end_of_ones(n: usize, out: &mut [u8; 2048]) -> Replayed {
+    let mut r = crate::replay::begun(n);
+    if 65536 < n {
+        return crate::replay::logged(r, 13, 65536, out);
+    }
+    let row = [1, 1, 1, 0, 0, 0, 0, 0, 0, 0, 0, 0, 0];
+    let a = crate::rules::step(r.state, &row);
+    let s = a.state;
+    r.state = s;
+    r.place = n / 3 * 3;
+    if n % 3 == 0 {
+        return r;
+    }
+    crate::replay::logged(r, 10, r.place, out)
+}
+
+// Histories of about 65,536 bytes.
+pub(crate) fn long(case: u64) -> Verdict {
+    let n = (65533 + case % 8) as usize;
+    let bytes = [1u8; 65540];
+    let mut out = [0u8; 2048];
+    let r = end_of_ones(n, &mut out);
+    Verdict {
+        refusal: r.refusal,
+        same: same_run(&bytes[..n], r, &out, 30),
+    }
+}

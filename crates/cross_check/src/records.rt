@@ -1,0 +1,81 @@
+// One case of writing and reading a record, run by both implementations.
+use crate::calls::Verdict;
+use crate::first::byte;
+use crate::first::clock_of;
+use crate::first::same_byte;
+use crate::first::same_row;
+use crate::form::put_all;
+use crate::random::Bytes;
+use crate::random::draw;
+use crate::rules::fits;
+use crate::rules::fresh;
+use crate::rules::row_of;
+use crate::signed::pick;
+use number::encode::Written;
+
+// All thirteen numbers.
+const WHOLE: u64 = 8191;
+
+// A clock's record, sound or not; the lent part is too short for about one in four. A writer checks 1, then 14.
+pub(crate) fn write(case: u64) -> Verdict {
+    let s = crate::random::state(case);
+    let row = row_of(s);
+    let fill = byte(draw(case, 500));
+    let room = (16 + draw(case, 501) % 49) as usize;
+    let mut buf = [fill; 64];
+    let d = crate::form::laid(&row, WHOLE, 0, fill);
+    let refusal = pick(fits(&row, 13), pick(d.next <= room, 0, 14), 1);
+    let w = record::save::write(clock_of(s), &mut buf[..room]);
+    let told = Written {
+        refusal: w.refusal,
+        next: w.length,
+    };
+    crate::numbers::agree(told, &buf, refusal, fill, d)
+}
+
+// A clock's record, once in 16 of another version and once in 16 other bytes in its place; whole or damaged.
+fn some_record(case: u64) -> Bytes {
+    let v = draw(case, 510);
+    let mut row = row_of(crate::random::state(case));
+    row[0] = pick(v % 16 == 0, v / 256 % 300, 1);
+    let mut bytes = crate::random::some_bytes(case);
+    let end = put_all(&mut bytes, 0, &row, pick(v / 16 % 16 == 0, 0, WHOLE));
+    crate::random::damaged(
+        Bytes {
+            bytes: bytes,
+            end: end,
+        },
+        case,
+    )
+}
+
+// Every field is judged where it stands; bytes after the end come last.
+fn read_refusal(bytes: &[u8; 64], end: usize, row: &mut [u64; 13]) -> u64 {
+    let c = crate::form::take(bytes, end, 0, WHOLE, row);
+    if !fits(row, c.count) {
+        return 12;
+    }
+    if c.refusal != 0 {
+        return c.refusal;
+    }
+    pick(c.next < end, 13, 0)
+}
+
+fn read_both(bytes: [u8; 64], end: usize) -> Verdict {
+    let mut row = [0u64; 13];
+    let refusal = read_refusal(&bytes, end, &mut row);
+    if refusal != 0 {
+        row = row_of(fresh());
+    }
+    let r = record::restore::read(&bytes[..end % 65]);
+    Verdict {
+        refusal: refusal,
+        same: same_byte(refusal, r.refusal) & same_row(&row, r.clock),
+    }
+}
+
+pub(crate) fn read(case: u64) -> Verdict {
+    let b = some_record(case);
+    let bytes = b.bytes;
+    read_both(bytes, b.end)
+}

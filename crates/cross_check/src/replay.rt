@@ -1,0 +1,202 @@
+// Document 01's replay, a second time.
+use crate::dates::PRINT;
+use crate::dates::clock_stamp;
+use crate::dates::filled;
+use crate::form::Cursor;
+use crate::form::take;
+use crate::rules::Answer;
+use crate::rules::State;
+use crate::rules::fresh;
+use crate::signed::pick;
+
+// The most ticks that one event of a compared history may ask for: the second implementation runs them one by one.
+const MOST: u64 = 20000;
+
+// The numbers of an event that stand in a history: code, arguments, for a request the mode and the fields that it selects.
+pub(crate) fn mask_of(row: &[u64; 13]) -> u64 {
+    let code = row[0];
+    match code {
+        0 => 3,
+        1 => 7,
+        2 => 3 + row[1] % 64 * 4,
+        _ => 1,
+    }
+}
+
+// The event at `at`, its numbers put into the row.
+fn event_at(bytes: &[u8; 64], end: usize, at: usize, row: &mut [u64; 13]) -> Cursor {
+    let c = take(bytes, end, at, 1, row);
+    if c.refusal != 0 {
+        return c;
+    }
+    let code = row[0];
+    if 3 < code {
+        return Cursor {
+            refusal: 12,
+            next: at,
+            count: 0,
+        };
+    }
+    let d = take(bytes, end, c.next, pick(code < 3, 2, 0), row);
+    if d.refusal != 0 {
+        return d;
+    }
+    take(bytes, end, d.next, mask_of(row) / 4 * 4, row)
+}
+
+// Up to n ticks of a sound clock.
+fn ticks(s: State, n: u64) -> Answer {
+    let mut a = Answer {
+        refusal: 0,
+        state: s,
+    };
+    let mut k: u64 = 0;
+    while k < n {
+        a = crate::rules::tick(a.state);
+        if a.refusal != 0 {
+            return a;
+        }
+        k += 1;
+    }
+    a
+}
+
+fn run_event(s: State, row: &[u64; 13]) -> Answer {
+    if row[0] == 0 {
+        return ticks(s, row[1]);
+    }
+    crate::rules::step(s, row)
+}
+
+// A line of the output, without the `skip` bytes from its tenth on; one of size 0 is none.
+pub(crate) struct Line {
+    pub(crate) text: [u8; 32],
+    pub(crate) size: usize,
+    pub(crate) skip: usize,
+}
+
+fn refused_line(refusal: u64) -> Line {
+    Line {
+        text: filled(*b"refused 0\n......................", 9, refusal),
+        size: 10,
+        skip: 0,
+    }
+}
+
+// Label, microseconds and status.
+fn print_line(s: State) -> Line {
+    let tail = filled(PRINT, 29, s.micros % 1000000 * 10 + s.status % 10);
+    Line {
+        text: filled(tail, 20, clock_stamp(s)),
+        size: 30,
+        skip: 0,
+    }
+}
+
+// The line of bytes that are no event: its place has as many digits as it needs.
+fn log_line(refusal: u64, place: u64) -> Line {
+    Line {
+        text: filled(
+            *b"log 00 at 00000\n................",
+            15,
+            refusal % 100 * 100000 + place % 100000,
+        ),
+        size: 16,
+        skip: pick(place < 10, 4, pick(place < 100, 3, 0)) as usize,
+    }
+}
+
+// Puts a line behind the `at` bytes of the output, and gives the place after it.
+pub(crate) fn put_line(out: &mut [u8; 2048], at: usize, line: Line) -> usize {
+    let text = line.text;
+    let mut next = at % 2048;
+    let mut k: usize = 0;
+    while k < 32 {
+        if (k < line.size) & ((k < 10) | (10 + line.skip % 16 <= k)) {
+            out[next % 2048] = text[k];
+            next = next % 2048 + 1;
+        }
+        k += 1;
+    }
+    next
+}
+
+// Where a run stands: the clock, how many bytes of output there are, the place of the next event, the end of the history, the refusal of
+// the log line, else of the last refused event, and whether it is over.
+pub(crate) struct Replayed {
+    pub(crate) state: State,
+    pub(crate) size: usize,
+    pub(crate) place: usize,
+    pub(crate) end: usize,
+    pub(crate) refusal: u64,
+    pub(crate) over: bool,
+}
+
+// A run before its first event.
+pub(crate) fn begun(end: usize) -> Replayed {
+    let s = fresh();
+    Replayed {
+        state: s,
+        size: 0,
+        place: 0,
+        end: end,
+        refusal: 0,
+        over: false,
+    }
+}
+
+// A run that ends with a log line, its place `at`.
+pub(crate) fn logged(r: Replayed, refusal: u64, at: usize, out: &mut [u8; 2048]) -> Replayed {
+    let mut next = r;
+    next.size = put_line(out, r.size, log_line(refusal, at as u64));
+    next.refusal = refusal;
+    next.over = true;
+    next
+}
+
+// The line of an event: a refusal, a print, or none.
+fn put_answer(out: &mut [u8; 2048], at: usize, a: Answer, code: u64) -> usize {
+    if a.refusal != 0 {
+        return put_line(out, at, refused_line(a.refusal));
+    }
+    if code == 3 {
+        return put_line(out, at, print_line(a.state));
+    }
+    at
+}
+
+// A run after its next event. One of too many ticks is where the history is cut.
+fn advanced(r: Replayed, bytes: &[u8; 64], out: &mut [u8; 2048]) -> Replayed {
+    let mut row = [0u64; 13];
+    let at = r.place;
+    let c = event_at(bytes, r.end, at, &mut row);
+    if c.refusal != 0 {
+        return logged(r, c.refusal, at, out);
+    }
+    let mut next = r;
+    if (row[0] == 0) & (MOST < row[1]) {
+        next.end = at;
+        return next;
+    }
+    let a = run_event(r.state, &row);
+    next.size = put_answer(out, r.size, a, row[0]);
+    next.refusal = pick(a.refusal == 0, r.refusal, a.refusal);
+    next.place = c.next;
+    let s = a.state;
+    next.state = s;
+    next
+}
+
+// Runs a history of `end` bytes, of which there are at most 64 events.
+pub(crate) fn replay(bytes: &[u8; 64], end: usize, out: &mut [u8; 2048]) -> Replayed {
+    let mut r = begun(end);
+    let mut left: u64 = 65;
+    while 0 < left {
+        if r.over | (r.end <= r.place) {
+            return r;
+        }
+        r = advanced(r, bytes, out);
+        left -= 1;
+    }
+    r
+}
