@@ -128,6 +128,12 @@ pub sizes-none : length (bytesOfAll []) ≤ 0
 unfolding bytesOfAll
 sizes-none = omega arith
 
+-- no number has more than five
+pub sizes-most : (ns : List ℕ) → length (bytesOfAll ns) ≤ 5 * length ns
+unfolding bytesOfAll
+sizes-most [] = omega arith
+sizes-most (n ∷ ns) = omega (arith, length-append (bytesOf n) (bytesOfAll ns), size-most n, sizes-most ns)
+
 -- those from index i on: the number there, and those behind it
 all-at : (ns : List ℕ) (i : ℕ) → i < length ns → bytesOfAll (drop i ns) ≡ bytesOf (getD ns i 0) ++ bytesOfAll (drop (i + 1) ns)
 unfolding bytesOfAll

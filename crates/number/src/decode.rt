@@ -63,18 +63,18 @@ fn read_long(bytes: &[u8], at: usize, low: u64) -> Decoded
             return Decoded::Refused(10);
         }
         let b = wide(bytes[p]);
+        sum = sum + scale * (b % 128);
+        p = p + 1;
         if b < 128 {
             if b == 0 {
                 return Decoded::Refused(11);
             }
             return Decoded::Value {
-                value: sum + scale * b,
-                next: p + 1,
+                value: sum,
+                next: p,
             };
         }
-        sum = sum + scale * (b % 128);
         scale = scale * 128;
-        p = p + 1;
         left = left - 1;
     }
     Decoded::Refused(11)

@@ -75,6 +75,10 @@ pub fn write(buf: &mut [u8], at: usize, n: u32) -> Written
 fn fit_in(ns: &[u32], room: usize) -> bool
     ensures { λ r. ⌜ r ≡ leb (length (bytesOfAll (now (ns .entry)))) room ⌝ }
 {
+    // No number has more than five bytes: where there is room for so many, they need not be counted.
+    if ns.len() <= room / 5 {
+        return true;
+    }
     let mut left = room;
     let mut i = 0;
     while i < ns.len() {

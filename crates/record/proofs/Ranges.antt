@@ -2,7 +2,7 @@
 use mathlib.Core.Path.{_≡_, refl, sym, _∙_, ap}
 use mathlib.Core.Bool.{Bool, true, false, _&&_, false≢true}
 use mathlib.Core.Logic.{⊎-elim}
-use Prim.Native.Nat.{ℕ, zero, suc, _^_, _<_}
+use Prim.Native.Nat.{ℕ, zero, suc, _*_, _/_, _%_, _^_, _≤_, _<_}
 use native.Mathlib.Omega.{arith}
 use lib.Dec.{leb, eqb, leb·suc-suc}
 use lib.IntN.{ℤ, pos, negsuc}
@@ -10,7 +10,7 @@ use lib.Signed.{leZ}
 use mir.Syntax.{w32, w64}
 use mir.Val.{SFits, toZ, ofZ}
 use mir.Facts.{toZ-ofZ}
-use borrow.Author.Tests.{leb-true, lt-leb, ne-eqb}
+use borrow.Author.Tests.{leb-true, leb-false, le-leb, lt-leb, eqb-true, eqb-false, ne-eqb}
 use Rattle.number.specs.Mapping.{unmapped}
 use Rattle.number.proofs.Mapping.{mapped-unmapped, mapped-fits}
 use Rattle.number.proofs.Lists.{either}
@@ -23,6 +23,33 @@ use Rattle.record.specs.Inner.{upTo, betweenZ, lastReftime}
 pub phase-bounds : (z : ℤ) → betweenZ (negsuc 268435454) (pos 268435455) z ≡ phaseRange z
 phase-bounds (pos n) = sym (leb·suc-suc n 268435455)
 phase-bounds (negsuc k) = ap (λ (b : Bool). b && true) (sym (leb·suc-suc k 268435454))
+
+-- two tests that pass together are one
+same-test : (a b c d : ℕ) → (a ≤ b → c ≤ d) → (c ≤ d → a ≤ b) → leb a b ≡ leb c d
+same-test a b c d f g =
+    ⊎-elim
+    (λ (t : leb a b ≡ true). t ∙ sym (le-leb c d (f (leb-true a b t))))
+    (λ (t : leb a b ≡ false).
+    let h : c ≤ d → ⊥ = λ l. omega (arith, g l, leb-false a b t) in
+    t ∙ sym (lt-leb c d (omega arith)))
+    (either (leb a b))
+
+-- a range that is as wide below 0 as above it, tested on the mapped number
+pub balanced : (k n : ℕ) → upTo (2 * suc k) n ≡ betweenZ (negsuc k) (pos (suc k)) (unmapped n)
+unfolding unmapped
+balanced k n =
+    ⊎-elim
+    (λ (t : eqb (n % 2) 0 ≡ true).
+    let even = eqb-true (n % 2) 0 t in
+    simp t (same-test n (2 * suc k) (n / 2) (suc k) (λ h. omega arith) (λ h. omega arith)))
+    (λ (t : eqb (n % 2) 0 ≡ false).
+    let odd = eqb-false (n % 2) 0 t in
+    simp t (same-test n (2 * suc k) (n / 2) k (λ h. omega arith) (λ h. omega arith) ∙ kept (leb (n / 2) k)))
+    (either (eqb (n % 2) 0))
+  where
+    kept : (b : Bool) → b ≡ b && true
+    kept true = refl
+    kept false = refl
 
 -- the second of the earlier update, by the flag
 flagged : (n : ℕ) → leb n lastSecond ≡ leb n lastSecond && true

@@ -2,25 +2,50 @@
 use mathlib.Core.Path.{_≡_, sym, _∙_, ap}
 use mathlib.Core.Bool.{true, false}
 use mathlib.Core.List.{List, _++_}
-use mathlib.Core.Logic.{⊎-elim}
 use Prim.Native.Nat.{ℕ, _+_, _<_, _≤_}
 use native.Mathlib.Omega.{arith}
-use lib.Dec.{leb}
-use lib.ListN.{length, drop}
-use borrow.Author.Tests.{leb-true, leb-false, lt-ltb, le-ltb}
+use lib.ListN.{length, take, drop}
+use lib.Seq.{take-length}
+use borrow.Author.Tests.{lt-ltb, le-ltb}
 use Rattle.number.specs.Writing.{answered, filled}
-use Rattle.number.proofs.Buffer.{filled-at, filled-short, answered-room, answered-short}
-use Rattle.number.proofs.Lists.{either}
+use Rattle.number.proofs.Buffer.{answered-room, filled-there, filled-length}
+use Rattle.number.proofs.Sizes.{sizes-most}
 use Rattle.clock.specs.State.{inRange}
 use Rattle.clock.specs.declared.state.Clock.{Clock}
 use Rattle.number.specs.declared.encode.Written.{Written}
-use Rattle.record.specs.Layout.{recordOf}
+use Rattle.record.specs.Layout.{numbersOf, recordOf}
 use Rattle.record.specs.Saving.{savingRefusal, savingOf, bufferAfter}
 use Rattle.record.specs.declared.save.Saved.{Saved}
 
--- what the number writer answered, as the answer of a write
-abbrev pub saved : Written → Saved
-saved w = record { refusal = w .refusal; length = w .next }
+-- ---- the record before it is copied
+
+-- thirteen numbers of five bytes at most
+most : (c : Clock) → length (recordOf c) ≤ 65
+unfolding recordOf numbersOf
+most c = sizes-most (numbersOf c)
+
+-- the record of c stands at the beginning of the text, and was found to be as long as it is
+pub record Drafted (c : Clock) (w : Written) (text : List ℕ) : Type 0 where
+  pub size : w .next ≡ length (recordOf c)
+  pub room : w .next ≤ length text
+  pub bytes : take (w .next) text ≡ recordOf c
+
+pub drafted : (c : Clock) (blank : List ℕ) → length blank ≡ 65 → {w : Written} {text : List ℕ} → w ≡ answered blank 0 (recordOf c)
+    → text ≡ filled blank 0 (recordOf c) → Drafted c w text
+drafted c blank l {w} {text} p q =
+    let ws = recordOf c in
+    let h : 0 + length ws ≤ length blank = omega (arith, most c) in
+    let size : w .next ≡ length ws = ap (λ (x : Written). x .next) (p ∙ sym (answered-room blank 0 ws h)) ∙ omega arith in
+    record {
+      size = size;
+      room = rw (q, filled-length blank 0 ws) (omega arith);
+      bytes = rw (size, q) (filled-there blank 0 ws h);
+    }
+
+pub copied : (buf : List ℕ) {src ws after : List ℕ} → src ≡ ws → after ≡ take (length src) src ++ drop (length src) buf → after ≡ ws ++ drop (length ws) buf
+copied buf {src} e p = p ∙ rw (take-length src, e)
+
+-- ---- the answers
 
 module _ (c : Clock) (buf : List ℕ) where
   pub out-of-range : inRange c ≡ false → (record { refusal = 1; length = 0 } ≡ savingOf c buf) × (buf ≡ bufferAfter c buf)
@@ -36,23 +61,3 @@ module _ (c : Clock) (buf : List ℕ) where
         → (record { refusal = 0; length = length (recordOf c) } ≡ savingOf c buf) × (recordOf c ++ drop (length (recordOf c)) buf ≡ bufferAfter c buf)
     unfolding savingOf bufferAfter savingRefusal
     stored h = (simp (e, le-ltb _ _ h), simp (e, le-ltb _ _ h))
-
-    -- the writer of numbers does as a write shall
-    pub in-range : (saved (answered buf 0 (recordOf c)) ≡ savingOf c buf) × (filled buf 0 (recordOf c) ≡ bufferAfter c buf)
-    in-range =
-        let ws = recordOf c in
-        ⊎-elim
-        (λ (t : leb (length ws) (length buf) ≡ true).
-        let l : length ws ≤ length buf = leb-true _ _ t in
-        let h : 0 + length ws ≤ length buf = omega arith in
-        let w = stored l in
-        let z : 0 + length ws ≡ length ws = omega arith in (
-          ap saved (sym (answered-room buf 0 ws h)) ∙ ap (λ (n : ℕ). record { refusal = 0; length = n }) z ∙ w .0,
-          filled-at buf 0 ws h ∙ ap (λ (n : ℕ). ws ++ drop n buf) z ∙ w .1,
-        ))
-        (λ (t : leb (length ws) (length buf) ≡ false).
-        let l : length buf < length ws = leb-false _ _ t in
-        let h : length buf < 0 + length ws = omega arith in
-        let w = too-short l in
-        (ap saved (sym (answered-short buf 0 ws h)) ∙ w .0, sym (filled-short buf 0 ws h) ∙ w .1))
-        (either (leb (length ws) (length buf)))

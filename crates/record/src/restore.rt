@@ -18,16 +18,17 @@ use clock::state::MAX_CONSTANT;
 use clock::state::MAX_ERROR;
 use clock::state::MAX_FREQUENCY;
 use clock::state::MAX_OFFSET;
-use clock::state::MIN_FREQUENCY;
-use clock::state::MIN_OFFSET;
-use clock::state::PHASE_ABOVE;
 use clock::state::PHASE_BELOW;
 use clock::state::TIME_BAD;
 use clock::state::fresh;
 
-const MIN_PHASE: i32 = PHASE_ABOVE + 1;
+// The greatest numbers that a phase, an offset left and a frequency are mapped to. Their ranges are as wide below 0 as above, so that
+// a number up to these is in range.
+const MAPPED_PHASE: u32 = 2 * (PHASE_BELOW as u32 - 1);
 
-const MAX_PHASE: i32 = PHASE_BELOW - 1;
+const MAPPED_OFFSET: u32 = 2 * (MAX_OFFSET as u32);
+
+const MAPPED_FREQUENCY: u32 = 2 * (MAX_FREQUENCY as u32);
 
 // The answer of a reading: refusal 0 and the clock that was saved, or refusal 10, 11, 12 or 13 and the fresh clock.
 pub struct Restored {
@@ -86,7 +87,7 @@ fn time_fields(bytes: &[u8], at: usize, c: Clock) -> Restored
     let Field::Value(micros, n2) = d2 else {
         return refused(d2);
     };
-    let d3 = signed(bytes, n2, MIN_PHASE, MAX_PHASE);
+    let d3 = plain(bytes, n2, MAPPED_PHASE);
     let Field::Value(phase, n3) = d3 else {
         return refused(d3);
     };
@@ -97,11 +98,11 @@ fn time_fields(bytes: &[u8], at: usize, c: Clock) -> Restored
 fn loop_fields(bytes: &[u8], at: usize, c: Clock) -> Restored
     ensures { λ r. ⌜ r ≡ fromLoop (now (bytes .entry)) at c ⌝ }
 {
-    let d4 = signed(bytes, at, MIN_OFFSET, MAX_OFFSET);
+    let d4 = plain(bytes, at, MAPPED_OFFSET);
     let Field::Value(offset, n4) = d4 else {
         return refused(d4);
     };
-    let d5 = signed(bytes, n4, MIN_FREQUENCY, MAX_FREQUENCY);
+    let d5 = plain(bytes, n4, MAPPED_FREQUENCY);
     let Field::Value(frequency, n5) = d5 else {
         return refused(d5);
     };

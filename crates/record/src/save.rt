@@ -22,9 +22,19 @@ pub fn write(c: Clock, buf: &mut [u8]) -> Saved
         };
     }
     let ns = numbers(c);
-    let w = number::encode::write_all(buf, 0, &ns);
+    // Thirteen numbers have 65 bytes at most: there is room for them here, and they are written before they are counted.
+    let mut text = [0u8; 65];
+    let w = number::encode::write_all(&mut text, 0, &ns);
+    let n = w.next;
+    if buf.len() < n {
+        return Saved {
+            refusal: 14,
+            length: 0,
+        };
+    }
+    bytes::copy(&text[..n], buf);
     Saved {
-        refusal: w.refusal,
-        length: w.next,
+        refusal: 0,
+        length: n,
     }
 }

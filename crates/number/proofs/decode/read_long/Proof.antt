@@ -67,10 +67,7 @@ module _ (w : tie.After-wide Inv-loop μ-loop) where
       let L = w .before .before .before .before .loop in
       scale-small (L .left) (L .scale) (w .before .before .before .loop-test .taken) (L .inv .1 .0)
 
-  -- the last group, and one before it
-  last-scaled : w .wide .result < 128 → let L = w .before .before .before .before .loop in L .scale * w .wide .result ≤ L .scale * 127
-  last-scaled h = scaled _ _ h
-
+  -- the group
   group-scaled : let L = w .before .before .before .before .loop in L .scale * (w .wide .result % 128) ≤ L .scale * 127
   group-scaled = scaled _ _ (omega arith)
 
@@ -88,36 +85,30 @@ shared-slice-read-wide c = search needs
 wide-requires : tie.Need-wide-requires Inv-loop μ-loop
 wide-requires c κs = search needs
 
+mul-sum : tie.Need-mul-sum Inv-loop μ-loop
+mul-sum c = omega (arith, scale-bound c, group-scaled c)
+
+add-sum : tie.Need-add-sum Inv-loop μ-loop
+add-sum c = omega (arith, scale-bound c, group-scaled c)
+
+add-p : tie.Need-add-p Inv-loop μ-loop
+add-p c = search needs
+
 returns-2 : tie.Need-returns-2 Inv-loop μ-loop
 returns-2 c =
     let w = c .before .before in
     sym (read-on w (later-zero _ _ _ (w .wide .result) (w .before .before .if1 .left) (w .wide .ensures .0) (c .if3 .taken)))
 
-mul-t14 : tie.Need-mul-t14 Inv-loop μ-loop
-mul-t14 c = omega (arith, scale-bound (c .before .before), last-scaled (c .before .before) (c .before .if2 .taken))
-
-add-t15 : tie.Need-add-t15 Inv-loop μ-loop
-add-t15 c = omega (arith, scale-bound (c .before .before), last-scaled (c .before .before) (c .before .if2 .taken))
-
-add-t16 : tie.Need-add-t16 Inv-loop μ-loop
-add-t16 c = search needs
-
 returns-3 : tie.Need-returns-3 Inv-loop μ-loop
 returns-3 c =
     let w = c .before .before in
-    sym (read-on w (later-last _ _ _ (w .wide .result) (w .before .before .if1 .left) (w .wide .ensures .0) (c .before .if2 .taken) (c .if3 .left)))
-
-mul-sum : tie.Need-mul-sum Inv-loop μ-loop
-mul-sum c = omega (arith, scale-bound (c .before), group-scaled (c .before))
-
-add-sum : tie.Need-add-sum Inv-loop μ-loop
-add-sum c = omega (arith, scale-bound (c .before), group-scaled (c .before))
+    let L = w .before .before .before .before .loop in
+    let whole : w .wide .result % 128 ≡ w .wide .result = omega (arith, c .before .if2 .taken) in
+    ap (λ (m : ℕ). number (L .sum + L .scale * m) (L .p + 1)) whole
+    ∙ sym (read-on w (later-last _ _ _ (w .wide .result) (w .before .before .if1 .left) (w .wide .ensures .0) (c .before .if2 .taken) (c .if3 .left)))
 
 mul-scale : tie.Need-mul-scale Inv-loop μ-loop
 mul-scale c = omega (arith, scale-bound (c .before))
-
-add-p : tie.Need-add-p Inv-loop μ-loop
-add-p c = search needs
 
 sub-left : tie.Need-sub-left Inv-loop μ-loop
 sub-left c = search needs
@@ -148,15 +139,12 @@ read-long-spec =
     returns
     shared-slice-read-wide
     wide-requires
-    returns-2
-    mul-t14
-    add-t15
-    add-t16
-    returns-3
     mul-sum
     add-sum
-    mul-scale
     add-p
+    returns-2
+    returns-3
+    mul-scale
     sub-left
     loop-less
     loop-again

@@ -7,7 +7,7 @@ use lib.ListN.{length, drop}
 use borrow.Author.Needs.{needs}
 use borrow.Author.Tests.{le-leb, lt-leb}
 use Rattle.number.specs.Form.{bytesOfAll}
-use Rattle.number.proofs.Sizes.{sizes-at, all-end}
+use Rattle.number.proofs.Sizes.{sizes-most, sizes-at, all-end}
 use Rattle.number.proofs.encode.fit_in.Statement.{statement}
 use Rattle.number.proofs.encode.fit_in.Tie as tie
 
@@ -17,6 +17,11 @@ Inv-loop ns room left₀ i₀ left i =
 
 abbrev μ-loop : tie.MeasureT-loop
 μ-loop ns room left₀ i₀ left i = length ns - i
+
+returns : tie.Need-returns Inv-loop μ-loop
+returns c =
+    let a = c .before .before .args in
+    sym (le-leb (length (bytesOfAll (a .ns .now))) (a .room) (omega (arith, sizes-most (a .ns .now))))
 
 loop-holds : tie.Need-loop-holds Inv-loop μ-loop
 loop-holds c = search needs
@@ -30,11 +35,11 @@ shared-slice-read-size c = search needs
 size-requires : tie.Need-size-requires Inv-loop μ-loop
 size-requires c κs = search needs
 
-returns : tie.Need-returns Inv-loop μ-loop
-returns c =
+returns-2 : tie.Need-returns-2 Inv-loop μ-loop
+returns-2 c =
     let z = c .before in
     let i = z .before .before .before .loop .i in
-    let a = z .before .before .before .before .before .args in
+    let a = z .before .before .before .before .before .before .args in
     let ns = a .ns .now in
     sym (lt-leb (length (bytesOfAll ns)) (a .room) (omega (arith, sizes-at ns i (z .before .before .loop-test .taken))))
 
@@ -48,13 +53,13 @@ loop-again : tie.Need-loop-again Inv-loop μ-loop
 loop-again c =
     let z = c .before in
     let i = z .before .before .before .loop .i in
-    let ns = z .before .before .before .before .before .args .ns .now in
+    let ns = z .before .before .before .before .before .before .args .ns .now in
     omega (arith, sizes-at ns i (z .before .before .loop-test .taken))
 
-returns-2 : tie.Need-returns-2 Inv-loop μ-loop
-returns-2 c =
+returns-3 : tie.Need-returns-3 Inv-loop μ-loop
+returns-3 c =
     let i = c .before .loop .i in
-    let a = c .before .before .before .args in
+    let a = c .before .before .before .before .args in
     let ns = a .ns .now in
     sym (le-leb (length (bytesOfAll ns)) (a .room) (omega (arith, ap length (all-end ns i (c .loop-test .left)))))
 
@@ -64,12 +69,13 @@ fit-in-spec =
     (tie.spec
     Inv-loop
     μ-loop
+    returns
     loop-holds
     mul-size
     shared-slice-read-size
     size-requires
-    returns
+    returns-2
     add-i
     loop-less
     loop-again
-    returns-2)
+    returns-3)

@@ -30,14 +30,14 @@ returns-2 : tie.Need-returns-2
 returns-2 c = stopped (b2 (c .before .before .before .before)) (c .before .before .before .plain2 .ensures) (c .before .enum-told2 .given .1) (c .refused2 .ensures)
 
 returns-3 : tie.Need-returns-3
-returns-3 c = stopped (b3 (c .before .before .before .before)) (c .before .before .before .signed .ensures ∙ phase-field _ _) (c .before .enum-told3 .given .1) (c .refused3 .ensures)
+returns-3 c = stopped (b3 (c .before .before .before .before)) (c .before .before .before .plain3 .ensures ∙ phase-field _ _) (c .before .enum-told3 .given .1) (c .refused3 .ensures)
 
 returns-4 : tie.Need-returns-4
 returns-4 c =
     let d = c .before .before in
     c .loop-fields .ensures
     ∙ rw (c .before .with-time .ensures)
-    (sym (went (b3 (d .before .before .before .before)) (d .before .before .before .signed .ensures ∙ phase-field _ _) (d .before .d3 .given .1)))
+    (sym (went (b3 (d .before .before .before .before)) (d .before .before .before .plain3 .ensures ∙ phase-field _ _) (d .before .d3 .given .1)))
 
 pub time-fields-spec : {M : Type 1} → statement M
 time-fields-spec =

@@ -1,17 +1,35 @@
--- `record::save::write` meets its contract: what the writer of numbers did is what a write of the record does.
+-- `record::save::write` meets its contract: the record is written into a text of its own, and copied where there is room for it.
 use borrow.Author.Needs.{needs}
 use borrow.Author.Tests.{not-true, not-false}
-use mathlib.Core.Path.{_≡_, sym, _∙_, ap}
+use mathlib.Core.Path.{_≡_, refl, sym, _∙_, ap}
+use mathlib.Core.Bool.{true}
+use native.Mathlib.Omega.{arith}
+use lib.Seq.{length-take-le}
 use Rattle.number.specs.Form.{bytesOfAll}
 use Rattle.number.specs.Writing.{answered, filled}
+use Rattle.clock.specs.State.{inRange}
 use Rattle.record.specs.Layout.{recordOf}
-use Rattle.record.proofs.SavingLaws.{saved, out-of-range, in-range}
+use Rattle.record.proofs.SavingLaws.{Drafted, drafted, copied, out-of-range, too-short, stored}
 use Rattle.record.proofs.save.write.Statement.{statement}
 use Rattle.record.proofs.save.write.Tie as tie
 
-whole : (c : tie.After-numbers) → bytesOfAll (c .numbers .result) ≡ recordOf (c .before .before .before .before .args .c)
+abbrev start : tie.After-write-all → tie.Start
+start c = c .before .before .before .before .before .before .before
+
+whole : (c : tie.After-write-all) → bytesOfAll (c .before .before .before .numbers .result) ≡ recordOf (start c .args .c)
 unfolding recordOf
-whole c = ap bytesOfAll (c .numbers .ensures)
+whole c = ap bytesOfAll (c .before .before .before .numbers .ensures)
+
+draft : (c : tie.After-write-all) → Drafted (start c .args .c) (c .write-all .result) (c .write-all .last .0)
+draft c =
+    drafted (start c .args .c) _ refl
+    (c .write-all .ensures .0 ∙ ap (answered _ 0) (whole c))
+    (c .write-all .ensures .1 ∙ ap (filled _ 0) (whole c))
+
+sound : (c : tie.After-write-all) → inRange (start c .args .c) ≡ true
+sound c =
+    let i = c .before .before .before .before in
+    sym (i .before .in-range .ensures) ∙ not-false _ (i .if1 .left)
 
 returns : tie.Need-returns
 returns c = out-of-range _ _ (sym (c .before .in-range .ensures) ∙ not-true _ (c .if1 .taken))
@@ -19,18 +37,35 @@ returns c = out-of-range _ _ (sym (c .before .in-range .ensures) ∙ not-true _ 
 slice-aggregate-write-all : tie.Need-slice-aggregate-write-all
 slice-aggregate-write-all c = search needs
 
-same-length : tie.Need-same-length
-same-length c = search needs
+slice-aggregate-write-all-2 : tie.Need-slice-aggregate-write-all-2
+slice-aggregate-write-all-2 c = search needs
 
 returns-2 : tie.Need-returns-2
 returns-2 c =
     let w = c .before .before in
-    let n = w .before .before .before in
-    let a = n .before .before .before .before .args in
-    let s = in-range (a .c) (a .buf .now) (sym (n .before .before .in-range .ensures) ∙ not-false _ (n .before .if1 .left)) in (
-      ap saved (w .write-all .ensures .0 ∙ ap (answered (a .buf .now) 0) (whole n)) ∙ s .0,
-      w .write-all .ensures .1 ∙ ap (filled (a .buf .now) 0) (whole n) ∙ s .1,
-    )
+    too-short _ _ (sound w) (omega (arith, draft w .size, c .if2 .taken))
+
+array-share-prefix-text : tie.Need-array-share-prefix-text
+array-share-prefix-text c = draft (c .before .before) .room
+
+slice-aggregate-copy : tie.Need-slice-aggregate-copy
+slice-aggregate-copy c = sym (length-take-le _ _ (draft (c .before .before .before) .room))
+
+copy-requires : tie.Need-copy-requires
+copy-requires c κs =
+    let e = c .before .before in
+    rw (length-take-le _ _ (draft (e .before .before) .room)) (e .if2 .left)
+
+same-length : tie.Need-same-length
+same-length c = search needs
+
+returns-3 : tie.Need-returns-3
+returns-3 c =
+    let e = c .before .before .before .before .before in
+    let w = e .before .before in
+    let d = draft w in
+    let s = stored _ (start w .args .buf .now) (sound w) (omega (arith, d .size, e .if2 .left)) in
+    (rw (d .size) (s .0), copied (start w .args .buf .now) (d .bytes) (c .before .before .copy .ensures .1) ∙ s .1)
 
 pub write-spec : {M : Type 1} → statement M
 write-spec =
@@ -40,6 +75,11 @@ write-spec =
     returns
     (λ c κs. tt)
     slice-aggregate-write-all
+    slice-aggregate-write-all-2
     (λ c κs. tt)
+    returns-2
+    array-share-prefix-text
+    slice-aggregate-copy
+    copy-requires
     same-length
-    returns-2)
+    returns-3)
