@@ -8,9 +8,10 @@ use lib.Signed.{leZ}
 use Rattle.number.specs.Mapping.{unmapped}
 use Rattle.number.specs.Reading.{Found, number, refused}
 use Rattle.clock.specs.Units.{micros, offsetUnits, phaseUnits, frequencyUnits}
-use Rattle.clock.specs.State.{lastSecond}
+use Rattle.clock.specs.State.{lastSecond, offsetRange, frequencyRange, adjustmentRange, constantRange}
 use Rattle.clock.specs.declared.state.Clock.{Clock}
-use Rattle.record.specs.Reading.{refusedWith, ended, timeFields, loopFields, updateFields, errorFields}
+use Rattle.record.specs.Reading.{refusedWith, then, ended, timeFields, updateFields, errorFields}
+use Rattle.record.specs.Field.{fieldAt, mappedRange}
 use Rattle.record.specs.declared.field.Field.{Field}
 use Rattle.record.specs.declared.field.Field.the-variants as F
 use Rattle.record.specs.declared.restore.Restored.{Restored}
@@ -56,14 +57,31 @@ withTime c seconds us phase =
       status = c .status;
     }
 
-abbrev pub withLoop : Clock → ℕ → ℕ → ℕ → ℕ → Clock
-withLoop c offset frequency adjustment constant =
+abbrev pub withLoop : Clock → ℕ → ℕ → Clock
+withLoop c offset frequency =
     record {
       seconds = c .seconds;
       micros = c .micros;
       phase = c .phase;
       offset = offsetUnits (unmapped offset);
       frequency = frequencyUnits (unmapped frequency);
+      adjustment = c .adjustment;
+      constant = c .constant;
+      updated = c .updated;
+      reftime = c .reftime;
+      maxerror = c .maxerror;
+      esterror = c .esterror;
+      status = c .status;
+    }
+
+abbrev pub withRate : Clock → ℕ → ℕ → Clock
+withRate c adjustment constant =
+    record {
+      seconds = c .seconds;
+      micros = c .micros;
+      phase = c .phase;
+      offset = c .offset;
+      frequency = c .frequency;
       adjustment = phaseUnits (unmapped adjustment);
       constant = constant;
       updated = c .updated;
@@ -121,8 +139,20 @@ updatePart s at c = updateFields s at (λ flag reftime next. fromErrors s next (
 unfoldable pub fromUpdate : List ℕ → ℕ → Clock → Restored
 fromUpdate s at c = updatePart s at c
 
+abbrev pub ratePart : List ℕ → ℕ → Clock → Restored
+ratePart s at c =
+    then (fieldAt (mappedRange adjustmentRange) s at) (λ adjustment n1.
+    then (fieldAt constantRange s n1) (λ constant n2.
+    fromUpdate s n2 (withRate c adjustment constant)))
+
+unfoldable pub fromRate : List ℕ → ℕ → Clock → Restored
+fromRate s at c = ratePart s at c
+
 abbrev pub loopPart : List ℕ → ℕ → Clock → Restored
-loopPart s at c = loopFields s at (λ offset frequency adjustment constant next. fromUpdate s next (withLoop c offset frequency adjustment constant))
+loopPart s at c =
+    then (fieldAt (mappedRange offsetRange) s at) (λ offset n1.
+    then (fieldAt (mappedRange frequencyRange) s n1) (λ frequency n2.
+    fromRate s n2 (withLoop c offset frequency)))
 
 unfoldable pub fromLoop : List ℕ → ℕ → Clock → Restored
 fromLoop s at c = loopPart s at c

@@ -1,6 +1,6 @@
 // A clock with a group of its fields replaced by what a record holds. Signed fields come as the numbers that they are mapped to.
 ghost use mathlib.Core.Path.{_≡_};
-ghost use Rattle.record.specs.Inner.{withTime, withLoop, withUpdate, withErrors};
+ghost use Rattle.record.specs.Inner.{withTime, withLoop, withRate, withUpdate, withErrors};
 use crate::field::unmapped_of;
 use clock::state::Clock;
 use clock::units::Frequency;
@@ -19,18 +19,20 @@ pub(crate) fn with_time(c: Clock, seconds: u32, micros: u32, phase: u32) -> Cloc
     }
 }
 
-pub(crate) fn with_loop(
-    c: Clock,
-    offset: u32,
-    frequency: u32,
-    adjustment: u32,
-    constant: u8,
-) -> Clock
-    ensures { λ r. ⌜ r ≡ withLoop c offset frequency adjustment constant ⌝ }
+pub(crate) fn with_loop(c: Clock, offset: u32, frequency: u32) -> Clock
+    ensures { λ r. ⌜ r ≡ withLoop c offset frequency ⌝ }
 {
     Clock {
         offset: OffsetUnits(unmapped_of(offset)),
         frequency: Frequency(unmapped_of(frequency)),
+        ..c
+    }
+}
+
+pub(crate) fn with_rate(c: Clock, adjustment: u32, constant: u8) -> Clock
+    ensures { λ r. ⌜ r ≡ withRate c adjustment constant ⌝ }
+{
+    Clock {
         adjustment: PhaseUnits(unmapped_of(adjustment)),
         constant: constant,
         ..c

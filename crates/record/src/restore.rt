@@ -1,9 +1,10 @@
 // Reading a clock's record.
 ghost use mathlib.Core.Path.{_≡_};
 ghost use Rattle.record.specs.Reading.{readingOf, refusedWith};
-ghost use Rattle.record.specs.Inner.{toldField, refusedAs, lastReftime, fromTime, fromLoop, fromUpdate, fromErrors};
+ghost use Rattle.record.specs.Inner.{toldField, refusedAs, lastReftime, fromTime, fromLoop, fromRate, fromUpdate, fromErrors};
 use crate::assemble::with_errors;
 use crate::assemble::with_loop;
+use crate::assemble::with_rate;
 use crate::assemble::with_time;
 use crate::assemble::with_update;
 use crate::field::Field;
@@ -73,7 +74,8 @@ pub fn read(bytes: &[u8]) -> Restored
     time_fields(bytes, n0, fresh())
 }
 
-// Each group of fields takes the clock with the fields before it, and hands it on to the next.
+// Each group of fields takes the clock with the fields before it, and hands it on to the next. The groups are small: a call behind more
+// than three fields that may be refused is taken for one that is seldom made, and not inlined.
 
 // Seconds, microseconds and phase.
 fn time_fields(bytes: &[u8], at: usize, c: Clock) -> Restored
@@ -94,7 +96,7 @@ fn time_fields(bytes: &[u8], at: usize, c: Clock) -> Restored
     loop_fields(bytes, n3, with_time(c, seconds, micros, phase))
 }
 
-// Offset left, frequency, adjustment and time constant.
+// Offset left and frequency.
 fn loop_fields(bytes: &[u8], at: usize, c: Clock) -> Restored
     ensures { λ r. ⌜ r ≡ fromLoop (now (bytes .entry)) at c ⌝ }
 {
@@ -106,7 +108,14 @@ fn loop_fields(bytes: &[u8], at: usize, c: Clock) -> Restored
     let Field::Value(frequency, n5) = d5 else {
         return refused(d5);
     };
-    let d6 = signed(bytes, n5, RECORDER.least.0, RECORDER.most.0);
+    rate_fields(bytes, n5, with_loop(c, offset, frequency))
+}
+
+// Adjustment and time constant.
+fn rate_fields(bytes: &[u8], at: usize, c: Clock) -> Restored
+    ensures { λ r. ⌜ r ≡ fromRate (now (bytes .entry)) at c ⌝ }
+{
+    let d6 = signed(bytes, at, RECORDER.least.0, RECORDER.most.0);
     let Field::Value(adjustment, n6) = d6 else {
         return refused(d6);
     };
@@ -114,8 +123,7 @@ fn loop_fields(bytes: &[u8], at: usize, c: Clock) -> Restored
     let Field::Value(constant, n7) = d7 else {
         return refused(d7);
     };
-    let d = with_loop(c, offset, frequency, adjustment, constant as u8);
-    update_fields(bytes, n7, d)
+    update_fields(bytes, n7, with_rate(c, adjustment, constant as u8))
 }
 
 // The earlier update: its flag and its second.

@@ -13,18 +13,14 @@ fits-offset c = search needs
 fits-frequency : (c : tie.After-unmapped-of2) → SFits w32 (c .unmapped-of2 .result)
 fits-frequency c = search needs
 
-fits-adjustment : (c : tie.After-unmapped-of3) → SFits w32 (c .unmapped-of3 .result)
-fits-adjustment c = search needs
-
 returns : tie.Need-returns
 returns c =
-    let u = c .before .before .before .before in
+    let u = c .before .before .before .before .before in
     rw (
-      toZ-ofZ (fits-adjustment u) ∙ u .unmapped-of3 .ensures,
-      toZ-ofZ (fits-frequency (u .before)) ∙ u .before .unmapped-of2 .ensures,
-      toZ-ofZ (fits-offset (u .before .before)) ∙ u .before .before .unmapped-of .ensures,
+      toZ-ofZ (fits-frequency u) ∙ u .unmapped-of2 .ensures,
+      toZ-ofZ (fits-offset (u .before)) ∙ u .before .unmapped-of .ensures,
     )
 
 pub with-loop-spec : {M : Type 1} → statement M
 with-loop-spec =
-    tie.close (tie.spec (λ c κs. tt) (λ c κs. tt) (λ c κs. tt) returns)
+    tie.close (tie.spec (λ c κs. tt) (λ c κs. tt) returns)

@@ -1,14 +1,11 @@
 -- `record::restore::loop_fields` meets its contract. Before each field a law says where the reading stands; a field that was read takes
 -- it to the next, and one that was refused ends it.
-use borrow.Author.Needs.{needs}
 use mathlib.Core.Path.{_≡_, refl, sym, _∙_}
 use mathlib.Core.List.{List}
 use Prim.Native.Nat.{ℕ}
-use lib.Dec.{lit<}
 use Rattle.clock.specs.declared.state.Clock.{Clock}
-use Rattle.record.specs.Inner.{upTo, loopPart, fromLoop}
-use Rattle.record.proofs.Ranges.{byte}
-use Rattle.record.proofs.FieldLaws.{offset-field, frequency-field, read-in}
+use Rattle.record.specs.Inner.{loopPart, fromLoop}
+use Rattle.record.proofs.FieldLaws.{offset-field, frequency-field}
 use Rattle.record.proofs.Steps.{Before, went, stopped}
 use Rattle.record.proofs.restore.loop_fields.Statement.{statement}
 use Rattle.record.proofs.restore.loop_fields.Tie as tie
@@ -23,12 +20,6 @@ b4 c = record { all = _; field = _; rest = _; is = opened (c .before .args .byte
 abbrev b5 : tie.After-known-told → Before
 b5 c = record { all = _; field = _; rest = _; is = went (b4 (c .before .before .before .before)) (c .before .before .before .plain .ensures ∙ offset-field _ _) (c .before .d4 .given .1) }
 
-abbrev b6 : tie.After-struct-told2 → Before
-b6 c = record { all = _; field = _; rest = _; is = went (b5 (c .before .before .before .before .before .before)) (c .before .before .before .before .before .plain2 .ensures ∙ frequency-field _ _) (c .before .before .before .d5 .given .1) }
-
-abbrev b7 : tie.After-known-told3 → Before
-b7 c = record { all = _; field = _; rest = _; is = went (b6 (c .before .before .before .before)) (c .before .before .before .signed .ensures) (c .before .d6 .given .1) }
-
 returns : tie.Need-returns
 returns c = stopped (b4 (c .before .before .before .before)) (c .before .before .before .plain .ensures ∙ offset-field _ _) (c .before .enum-told .given .1) (c .refused .ensures)
 
@@ -36,20 +27,11 @@ returns-2 : tie.Need-returns-2
 returns-2 c = stopped (b5 (c .before .before .before .before)) (c .before .before .before .plain2 .ensures ∙ frequency-field _ _) (c .before .enum-told2 .given .1) (c .refused2 .ensures)
 
 returns-3 : tie.Need-returns-3
-returns-3 c = stopped (b6 (c .before .before .before .before)) (c .before .before .before .signed .ensures) (c .before .enum-told3 .given .1) (c .refused3 .ensures)
-
-returns-4 : tie.Need-returns-4
-returns-4 c = stopped (b7 (c .before .before .before .before)) (c .before .before .before .plain3 .ensures) (c .before .enum-told4 .given .1) (c .refused4 .ensures)
-
-cast-with-loop : tie.Need-cast-with-loop
-cast-with-loop c = record { fits = byte 4 (lit< tt) (read-in (upTo 4) _ _ (c .before .before .before .plain3 .ensures) (c .before .d7 .given .1)) }
-
-returns-5 : tie.Need-returns-5
-returns-5 c =
+returns-3 c =
     let d = c .before .before in
-    c .update-fields .ensures
+    c .rate-fields .ensures
     ∙ rw (c .before .with-loop .ensures)
-    (sym (went (b7 (d .before .before .before .before)) (d .before .before .before .plain3 .ensures) (d .before .d7 .given .1)))
+    (sym (went (b5 (d .before .before .before .before)) (d .before .before .before .plain2 .ensures ∙ frequency-field _ _) (d .before .d5 .given .1)))
 
 pub loop-fields-spec : {M : Type 1} → statement M
 loop-fields-spec =
@@ -66,17 +48,5 @@ loop-fields-spec =
     (λ c κs. tt)
     returns-2
     (λ c κs. tt)
-    (λ c. c .match3 .keys1)
-    (λ c. c .match3 .keys2)
     (λ c κs. tt)
-    returns-3
-    (λ c. search needs)
-    (λ c κs. tt)
-    (λ c. c .match4 .keys1)
-    (λ c. c .match4 .keys2)
-    (λ c κs. tt)
-    returns-4
-    cast-with-loop
-    (λ c κs. tt)
-    (λ c κs. tt)
-    returns-5)
+    returns-3)

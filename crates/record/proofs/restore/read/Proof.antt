@@ -6,13 +6,13 @@ use Rattle.clock.specs.State.{freshClock}
 use Rattle.record.specs.Layout.{knownVersion}
 use Rattle.record.specs.Field.{fieldAt}
 use Rattle.record.specs.Reading.{then, readingOf}
-use Rattle.record.specs.Inner.{fromTime, fromLoop, fromUpdate, fromErrors}
+use Rattle.record.specs.Inner.{fromTime, fromLoop, fromRate, fromUpdate, fromErrors}
 use Rattle.record.proofs.Steps.{Before, went, stopped}
 use Rattle.record.proofs.restore.read.Statement.{statement}
 use Rattle.record.proofs.restore.read.Tie as tie
 
 opened : (s : List ℕ) → readingOf s ≡ then (fieldAt knownVersion s 0) (λ version n0. fromTime s n0 freshClock)
-unfolding readingOf fromTime fromLoop fromUpdate fromErrors
+unfolding readingOf fromTime fromLoop fromRate fromUpdate fromErrors
 opened s = refl
 
 abbrev b0 : tie.After-shared-slice-known → Before
