@@ -65,12 +65,12 @@ pub fn read(text: &[u8]) -> Answer
     if !fields::is_marked(text) {
         return not_a_label();
     }
-    let found = calendar::day_of(fields::date_at(text));
-    let Found::Day(day) = found else {
-        return not_a_label();
-    };
     let time = fields::time_at(text);
     let Time::At { second, sixty } = time else {
+        return not_a_label();
+    };
+    let found = calendar::day_of(fields::date_at(text));
+    let Found::Day(day) = found else {
         return not_a_label();
     };
     if (day == LAST_DAY) & (LAST_DAY_END < second) {
