@@ -6,7 +6,7 @@ use Prim.Native.Nat.{ℕ, zero, suc, _+_, _*_, _-_, _/_, _%_, _<_, _≤_}
 use native.Mathlib.Omega.{arith}
 use lib.Dec.{T, eqb, eqb→eq}
 use Rattle.calendar.specs.declared.Date.{Date}
-use Rattle.calendar.specs.Calendar.{monthDays, tomorrow, dateOf, days}
+use Rattle.calendar.specs.Calendar.{monthDays, nextDay, dateOf, days}
 use Rattle.calendar.specs.Search.{firstDay}
 use Rattle.calendar.proofs.Every.{both, both-left, both-right, below, at-below}
 use Rattle.calendar.proofs.Dates.{on, same-parts, month-length, Sound, sound, rank, rank-later}
@@ -64,13 +64,13 @@ abbrev spanMonths : ℕ
 spanMonths = 137 * 12
 
 followed : ℕ → Bool
-followed n = same (dateClosed (suc n)) (tomorrow (dateClosed n))
+followed n = same (dateClosed (suc n)) (nextDay (dateClosed n))
 
 every-day : T (below followed spanDays)
 unfolding followed
 every-day = tt
 
-followed-at : (n : ℕ) → n < spanDays → T (same (dateClosed (suc n)) (tomorrow (dateClosed n)))
+followed-at : (n : ℕ) → n < spanDays → T (same (dateClosed (suc n)) (nextDay (dateClosed n)))
 unfolding followed
 followed-at = at-below followed spanDays every-day
 
@@ -89,7 +89,7 @@ pub date-right : (n : ℕ) → n < spanDays → dateClosed n ≡ dateOf n
 unfolding dateOf
 date-right zero h = refl
 date-right (suc n) h =
-    same→eq (dateClosed (suc n)) (tomorrow (dateClosed n)) (followed-at n (omega arith)) ∙ ap tomorrow (date-right n (omega arith))
+    same→eq (dateClosed (suc n)) (nextDay (dateClosed n)) (followed-at n (omega arith)) ∙ ap nextDay (date-right n (omega arith))
 
 -- each month of the years 1970 to 2106
 module _ (y m : ℕ) (years : (1970 ≤ y) × (y ≤ 2106)) (months : (1 ≤ m) × (m ≤ 12)) where

@@ -9,7 +9,7 @@ use native.Mathlib.Nat.{eq-or-lt-of-le, le-of-suc-le-suc, not-suc-le-zero, add-z
 use borrow.Author.Tests.{ltb-true, lt-ltb}
 use lib.Dec.{T, leb, ltb, eqb, leb→le}
 use Rattle.calendar.specs.declared.Date.{Date}
-use Rattle.calendar.specs.Calendar.{isLeap, monthDays, tomorrow, dateOf}
+use Rattle.calendar.specs.Calendar.{isLeap, monthDays, nextDay, dateOf}
 use Rattle.calendar.specs.Search.{FallsIn, firstDay}
 
 -- a date by its parts
@@ -49,7 +49,7 @@ module _ (P : Date → Type 0) (d : Date) where
   by-cases : ((d .day < monthDays (d .year) (d .month)) → P (on (d .year) (d .month) (d .day + 1)))
       → ((d .month < 12) → P (on (d .year) (d .month + 1) 1))
       → P (on (d .year + 1) 1 1)
-      → P (tomorrow d)
+      → P (nextDay d)
   by-cases f g h = first (ltb (d .day) (monthDays (d .year) (d .month))) refl
     where
       second : (t : Bool) → ltb (d .month) 12 ≡ t → P (cond t (on (d .year) (d .month + 1) 1) (on (d .year + 1) 1 1))
@@ -61,7 +61,7 @@ module _ (P : Date → Type 0) (d : Date) where
       first true e = f (ltb-true _ _ e)
       first false e = second (ltb (d .month) 12) refl
 
-sound-next : (d : Date) → Sound d → Sound (tomorrow d)
+sound-next : (d : Date) → Sound d → Sound (nextDay d)
 sound-next d s =
     by-cases Sound d
     (λ h. record { years = s .years; months = s .months; days = (omega arith, omega arith) })
@@ -79,7 +79,7 @@ sound (suc n) = sound-next (dateOf n) (sound n)
 abbrev pub rank : Date → ℕ
 rank d = 372 * d .year + 31 * d .month + d .day
 
-rank-next : (d : Date) → Sound d → rank d < rank (tomorrow d)
+rank-next : (d : Date) → Sound d → rank d < rank (nextDay d)
 rank-next d s =
     let long = month-length (d .year) (d .month) in
     by-cases (λ (e : Date). rank d < rank e) d

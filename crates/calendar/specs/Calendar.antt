@@ -16,15 +16,15 @@ monthDays y m =
     (cond (eqb m 4) 30 (cond (eqb m 6) 30 (cond (eqb m 9) 30 (cond (eqb m 11) 30 31))))
 
 -- the date of the day after: the next day of the month, else the first day of the next month, else of the next year
-abbrev pub tomorrow : Date → Date
-tomorrow d =
+abbrev pub nextDay : Date → Date
+nextDay d =
     cond (ltb (d .day) (monthDays (d .year) (d .month))) (record { year = d .year; month = d .month; day = d .day + 1 })
     (cond (ltb (d .month) 12) (record { year = d .year; month = d .month + 1; day = 1 }) (record { year = d .year + 1; month = 1; day = 1 }))
 
 -- the date of day n: day 0 is 1 January 1970, and the days are counted from there
 unfoldable pub dateOf : ℕ → Date
 dateOf zero = record { year = 1970; month = 1; day = 1 }
-dateOf (suc n) = tomorrow (dateOf n)
+dateOf (suc n) = nextDay (dateOf n)
 
 -- how many days 2 ^ 32 seconds reach, the last of them not whole
 abbrev pub days : ℕ

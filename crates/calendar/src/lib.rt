@@ -1,5 +1,5 @@
 // The Gregorian calendar over the days that 2^32 seconds from 1970 on reach: 1 January 1970 to 7 February 2106.
-// `date_of_second` and `day_of` are each other's inverse there; both answer for every input, in constant time.
+// `date_of_second` and `day_of` are each other's inverse there; both answer for every input, without a loop.
 mod month;
 
 ghost use mathlib.Core.Path.{_≡_};

@@ -24,7 +24,6 @@ greatestOffset = 127999
 abbrev pub greatestFrequency : ℕ
 greatestFrequency = 100 * 2 ^ 24
 
--- the greatest time constant
 abbrev pub greatestConstant : ℕ
 greatestConstant = 4
 

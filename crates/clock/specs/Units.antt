@@ -19,18 +19,16 @@ phaseUnits z = record { 0 = z }
 abbrev pub frequencyUnits : ℤ → Frequency
 frequencyUnits z = record { 0 = z }
 
--- offset units in a microsecond
+-- "An offset unit is 2^-14 us"
 abbrev pub offsetUnitsPerMicro : ℕ
 offsetUnitsPerMicro = 2 ^ 14
 
--- phase units in a microsecond
+-- "a phase unit 2^-28 us"
 abbrev pub phaseUnitsPerMicro : ℕ
 phaseUnitsPerMicro = 2 ^ 28
 
--- microseconds in a second
 abbrev pub microsPerSecond : ℕ
 microsPerSecond = 1000000
 
--- seconds in a day
 abbrev pub secondsPerDay : ℕ
 secondsPerDay = 86400

@@ -31,7 +31,7 @@ pub(crate) fn advance_of(c: Clock) -> Advance
     }
 }
 
-// A tick that reaches the end of its second. Apart from `tick`, so that the 255 others of a second stay short.
+// A tick that reaches the end of its second. Apart from `tick`, so that the ticks within a second stay short.
 pub(crate) fn overflow(c: Clock, a: Advance) -> Outcome
     requires { ⌜ inRange c ≡ true ⌝ }
     requires { ⌜ rollsOver c ≡ true ⌝ }

@@ -1,5 +1,5 @@
 // UTC labels, `1970-01-01T00:00:00Z` to `2106-02-07T06:28:15Z`: `write` fills a lent buffer with a clock's label, and `read`
-// accepts exactly what `write` can write. Both take constant time.
+// accepts exactly what `write` can write.
 mod fields;
 mod text;
 
@@ -55,7 +55,6 @@ fn not_a_label() -> Answer
     }
 }
 
-// Reads a label.
 pub fn read(text: &[u8]) -> Answer
     ensures { λ r. ⌜ ReadsAs (now (text .entry)) r ⌝ }
 {

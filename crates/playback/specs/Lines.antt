@@ -11,7 +11,7 @@ unfoldable pub decimalFrom : ℕ → ℕ → List ℕ
 decimalFrom zero n = digit n ∷ []
 decimalFrom (suc more) n = cond (ltb n 10) (digit n ∷ []) (decimalFrom more (n / 10) ++ (digit n ∷ []))
 
--- n in decimal, with no zero in front: n has fewer digits than n + 1
+-- n in decimal, with no zero in front: n has at most n + 1 digits
 unfoldable pub decimal : ℕ → List ℕ
 decimal n = decimalFrom n n
 

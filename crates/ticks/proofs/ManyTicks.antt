@@ -1,24 +1,33 @@
 -- Many ticks, by those up to a rollover and those after it.
-use mathlib.Core.Path.{_≡_, sym, _∙_, ap}
-use mathlib.Core.Bool.{true, false, cond}
+use mathlib.Core.Path.{_≡_, refl, sym, _∙_, ap}
+use mathlib.Core.Bool.{Bool, true, false, cond, not}
 use Prim.Native.Nat.{ℕ, zero, suc, _-_, _≤_, _<_}
 use native.Mathlib.Omega.{arith}
 use lib.Dec.{eqb}
 use borrow.Author.Tests.{eq-eqb, ne-eqb}
 use Rattle.clock.specs.State.{inRange}
-use Rattle.clock.specs.Tick.{advanced, microsGrown}
+use Rattle.clock.specs.Refusal.{refuse}
+use Rattle.clock.specs.Rollover.{rolledOver}
+use Rattle.clock.specs.Tick.{advanced, microsGrown, tickOf, tickRefusal}
 use Rattle.clock.specs.CatchUp.{ticksToRollover}
 use Rattle.clock.specs.declared.state.Clock.{Clock}
 use Rattle.clock.specs.declared.outcome.Outcome.{Outcome}
 use Rattle.clock.specs.declared.catch_up.CaughtUp.{CaughtUp}
 use Rattle.clock.proofs.Ok.{ok-back}
 use Rattle.clock.proofs.TickCases.{TickCase, out, last, plain, rolls, tickCase}
+use Rattle.clock.proofs.TickLaws.{advanced-ok, grown-most}
+use Rattle.clock.proofs.RollLaws.{rolled-ok}
 use Rattle.clock.proofs.CatchUpLaws.{none-out, stays-in-range}
 use Rattle.ticks.specs.Ticks.{ticksOf}
 
-pub ticks-none : (n : ℕ) (c : Clock) → n ≤ 0 → ticksOf n c ≡ record { refusal = 0; clock = c }
+pub ticks-none : (n : ℕ) (c : Clock) → n ≤ 0 → inRange c ≡ true → ticksOf n c ≡ record { refusal = 0; clock = c }
 unfolding ticksOf
-ticks-none n c h = let e : n ≡ 0 = omega arith in rw e
+ticks-none n c h t = let e : n ≡ 0 = omega arith in rw e (simp t)
+
+pub ticks-out : (n : ℕ) (c : Clock) → inRange c ≡ false → ticksOf n c ≡ record { refusal = 1; clock = c }
+unfolding ticksOf tickOf tickRefusal
+ticks-out zero c t = simp t
+ticks-out (suc n) c t = simp t
 
 -- the ticks that are left, run after those up to a rollover
 abbrev rest : CaughtUp → Outcome
@@ -56,6 +65,20 @@ left-less n c (last k l e) h = omega (arith, simp (e, l) at h)
 left-less n c (plain k l less e) h = simp (e, l) (left-most n (advanced c (microsGrown c)) (tickCase _))
 left-less n c (rolls k l more less e) h = simp (e, l) (omega arith)
 
+-- where no tick was refused the clock is in range
+by-range : (c : Clock) (b : Bool) → inRange c ≡ b → refuse (not (inRange c)) 1 0 ≡ 0 → inRange c ≡ true
+by-range c true t h = t
+by-range c false t h = absurd (omega (arith, simp t at h))
+
+after-in-range : (n : ℕ) (c : Clock) → TickCase c → ticksToRollover n c .refusal ≡ 0 → inRange (ticksToRollover n c .clock) ≡ true
+unfolding ticksToRollover
+after-in-range zero c k h = by-range c (inRange c) refl h
+after-in-range (suc n) c (out t e) h = absurd (omega (arith, rw (none-out c (suc n) t) at h))
+after-in-range (suc n) c (last k l e) h = absurd (omega (arith, simp (e, l) at h))
+after-in-range (suc n) c (plain k l less e) h = simp (e, l) (after-in-range n (advanced c (microsGrown c)) (tickCase _) (simp (e, l) at h))
+after-in-range (suc n) c (rolls k l more less e) h =
+    simp (e, l) (ok-back (rolledOver (advanced c (microsGrown c - 1000000))) (rolled-ok _ (advanced-ok c k (omega (arith, grown-most c k))) less))
+
 module _ (c : Clock) (r : CaughtUp) (n : ℕ) (some : 0 < n) (e : r ≡ ticksToRollover n c) where
   counted : n ≡ suc (n - 1)
   counted = omega arith
@@ -74,3 +97,6 @@ module _ (c : Clock) (r : CaughtUp) (n : ℕ) (some : 0 < n) (e : r ≡ ticksToR
       let q = ap (λ (k : ℕ). ticksToRollover k c) counted in
       let l = left-less (n - 1) c (tickCase c) (ap (λ (x : CaughtUp). x .refusal) (sym (e ∙ q)) ∙ h) in
       omega (arith, l, ap (λ (x : CaughtUp). x .left) (e ∙ q))
+
+  pub ticks-in-range : r .refusal ≡ 0 → inRange (r .clock) ≡ true
+  ticks-in-range h = rw (sym e) at (after-in-range n c (tickCase c) (ap (λ (x : CaughtUp). x .refusal) (sym e) ∙ h))

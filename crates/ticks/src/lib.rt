@@ -4,11 +4,19 @@ ghost use Rattle.ticks.specs.Ticks.{ticksOf};
 use clock::catch_up::ticks_to_rollover;
 use clock::outcome::Outcome;
 use clock::state::Clock;
+use clock::state::in_range;
 
-// Up to n single ticks. The answer of the first that is refused, with the clock that the accepted ones led to; or refusal 0.
+// Up to n single ticks. The answer of the first that is refused, with the clock that the accepted ones led to; or refusal 0. A clock out
+// of range is refused even where n is 0.
 pub fn run_ticks(c: Clock, n: u64) -> Outcome
     ensures { λ r. ⌜ r ≡ ticksOf n c ⌝ }
 {
+    if !in_range(c) {
+        return Outcome {
+            refusal: 1,
+            clock: c,
+        };
+    }
     let mut d = c;
     let mut left = n;
     while 0 < left {
