@@ -5,7 +5,7 @@ use mathlib.Core.Logic.{⊎-elim}
 use Prim.Native.Nat.{ℕ, zero, suc, _+_, _*_, _-_, _/_, _%_, _^_, _<_, _≤_}
 use native.Mathlib.Omega.{arith}
 use lib.Dec.{T, eqb}
-use lib.IntN.{ℤ, pos, negsuc, natAbs, _-ℤ_}
+use lib.IntN.{ℤ, pos, negsuc, natAbs, negℤ, _-ℤ_, _*ℤ_}
 use lib.Signed.{ltZ}
 use mir.Syntax.{Width, w8, w16, w32, w64, w128}
 use mir.Val.{SFits, bits, hbits, toZ, ofZ}
@@ -68,21 +68,24 @@ below : (h : ℕ) → negsuc 0 -ℤ pos h ≡ negsuc h
 below zero = refl
 below (suc h) = ap negsuc (omega arith)
 
+pub from-twice : (k : ℕ) → negsuc 0 -ℤ negsuc (2 * k + 1) ≡ pos (2 * k + 1)
+from-twice k = minus (2 * k + 1)
+
+twice : (k : ℕ) → pos 2 *ℤ negsuc k ≡ negsuc (2 * k + 1)
+twice k = let e : 2 * suc k ≡ suc (2 * k + 1) = omega arith in ap (λ (n : ℕ). negℤ (pos n)) e
+
 module _ (w : Width) where
-  -- a negative z: -1 - z is a natural number k, and z is written as 2 k + 1
+  -- a negative z: 2 z is -2 (k + 1) for a natural number k, and z is written as 2 k + 1
   pub record Negative (z : ℤ) : Type 0 where
     pub k : ℕ
-    pub is : negsuc 0 -ℤ z ≡ pos k
-    pub fits : SFits w (pos k)
+    pub doubled : pos 2 *ℤ z ≡ negsuc (2 * k + 1)
     pub small : k < 2 ^ hbits w
     pub form : mapped z ≡ 2 * k + 1
 
   pub negative : (z : ℤ) → SFits w z → ltZ z (pos 0) ≡ true → Negative z
   unfolding mapped
   negative (pos n) f t = let z : n < 0 = ltb-true n 0 t in absurd (omega arith)
-  negative (negsuc k) f t =
-      let h : k < 2 ^ hbits w = omega (arith, f .sfits) in
-      record { k = k; is = minus k; fits = record { sfits = h }; small = h; form = omega arith }
+  negative (negsuc k) f t = record { k = k; doubled = twice k; small = omega (arith, f .sfits); form = omega arith }
 
   -- z not negative is written as 2 z
   pub record Natural (z : ℤ) : Type 0 where

@@ -37,13 +37,14 @@ pub fn read(bytes: &[u8], at: usize) -> Decoded
     }
     let b1 = wide(bytes[p]);
     if 128 <= b1 {
-        return read_long(bytes, p + 1, b0 % 128 + 128 * (b1 % 128));
+        // Less the top bits: 128, and 128 times 128.
+        return read_long(bytes, p + 1, b0 + 128 * b1 - 16512);
     }
     if b1 == 0 {
         return Decoded::Refused(11);
     }
     Decoded::Value {
-        value: b0 % 128 + 128 * b1,
+        value: b0 + 128 * b1 - 128,
         next: p + 1,
     }
 }
@@ -63,7 +64,7 @@ fn read_long(bytes: &[u8], at: usize, low: u64) -> Decoded
             return Decoded::Refused(10);
         }
         let b = wide(bytes[p]);
-        sum = sum + scale * (b % 128);
+        sum = sum + scale * b;
         p = p + 1;
         if b < 128 {
             if b == 0 {
@@ -75,6 +76,8 @@ fn read_long(bytes: &[u8], at: usize, low: u64) -> Decoded
             };
         }
         scale = scale * 128;
+        // The byte's top bit is none of the number.
+        sum = sum - scale;
         left = left - 1;
     }
     Decoded::Refused(11)

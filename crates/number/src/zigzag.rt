@@ -7,7 +7,7 @@ pub fn map(v: i32) -> u32
     ensures { λ r. ⌜ r ≡ mapped v ⌝ }
 {
     if v < 0 {
-        2 * ((-1 - v) as u32) + 1
+        (-1 - 2 * (v as i64)) as u32
     } else {
         2 * (v as u32)
     }

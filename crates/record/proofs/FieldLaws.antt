@@ -5,17 +5,18 @@ use mathlib.Core.List.{List}
 use mathlib.Core.Logic.{⊎-elim}
 use Prim.Native.Nat.{ℕ, suc, _*_}
 use native.Mathlib.Omega.{arith}
+use lib.Dec.{lit<}
 use lib.IntN.{pos, negsuc}
 use Rattle.number.specs.declared.decode.Decoded.{Decoded}
 use Rattle.number.specs.declared.decode.Decoded.the-variants as D
 use Rattle.number.specs.Reading.{Found, number, refused, numberAt, told}
 use Rattle.number.proofs.Lists.{either}
 use Rattle.number.specs.Mapping.{unmapped}
-use Rattle.clock.specs.State.{phaseRange, offsetRange, frequencyRange}
+use Rattle.clock.specs.State.{phaseRange, offsetRange, frequencyRange, adjustmentRange}
 use Rattle.record.specs.Field.{judgedBy, fieldAt, mappedRange}
 use Rattle.record.specs.Reading.{reftimeRange}
-use Rattle.record.specs.Inner.{toldField, upTo, betweenZ, lastReftime}
-use Rattle.record.proofs.Ranges.{phase-bounds, balanced, reftime-bounds}
+use Rattle.record.specs.Inner.{toldField, upTo, fromTo, betweenZ, lastReftime}
+use Rattle.record.proofs.Ranges.{phase-bounds, balanced, lopsided, reftime-bounds}
 use Rattle.record.specs.declared.field.Field.{Field}
 use Rattle.record.specs.declared.field.Field.the-variants as F
 
@@ -59,6 +60,9 @@ offset-field = balanced-field 2097135615
 
 pub frequency-field : (s : List ℕ) (at : ℕ) → fieldAt (upTo 3355443200) s at ≡ fieldAt (mappedRange frequencyRange) s at
 frequency-field = balanced-field 1677721599
+
+pub adjustment-field : (s : List ℕ) (at : ℕ) → fieldAt (fromTo (negsuc 168819711) 606074880) s at ≡ fieldAt (mappedRange adjustmentRange) s at
+adjustment-field s at = field-same _ _ s at (λ n. lopsided 168819711 303037440 n (lit< tt))
 
 -- the second of the earlier update, tested by the largest one that the flag allows
 pub reftime-field : (s : List ℕ) (at flag : ℕ) {most : ℕ} → most ≡ lastReftime flag → fieldAt (upTo most) s at ≡ fieldAt (reftimeRange flag) s at

@@ -29,6 +29,10 @@ upTo most n = leb n most
 abbrev pub betweenZ : ℤ → ℤ → ℤ → Bool
 betweenZ least most z = leZ least z && leZ z most
 
+-- numbers 0 to most, of signed numbers from least on
+abbrev pub fromTo : ℤ → ℕ → ℕ → Bool
+fromTo least most n = leb n most && leZ least (unmapped n)
+
 -- the answer of a reading that a field ends
 abbrev pub refusedAs : Found → Restored
 refusedAs (number v next) = refusedWith 0

@@ -1,8 +1,8 @@
 // One field of a record: a number at a place, and its range.
 ghost use mathlib.Core.Path.{_≡_};
 ghost use Rattle.number.specs.Mapping.{unmapped};
-ghost use Rattle.record.specs.Field.{fieldAt, mappedRange};
-ghost use Rattle.record.specs.Inner.{toldField, upTo, betweenZ};
+ghost use Rattle.record.specs.Field.{fieldAt};
+ghost use Rattle.record.specs.Inner.{toldField, upTo, fromTo};
 ghost use Rattle.record.specs.Layout.{knownVersion};
 use crate::layout::VERSION;
 use number::decode::Decoded;
@@ -44,16 +44,19 @@ pub(crate) fn plain(bytes: &[u8], at: usize, most: u32) -> Field
     }
 }
 
-// The mapped field at `at` whose values are `least` to `most`.
-pub(crate) fn signed(bytes: &[u8], at: usize, least: i32, most: i32) -> Field
-    ensures { λ r. ⌜ toldField r ≡ fieldAt (mappedRange (betweenZ least most)) (now (bytes .entry)) at ⌝ }
+// The mapped field at `at` whose values are `least` or more, and whose numbers are 0 to `most`.
+pub(crate) fn signed(bytes: &[u8], at: usize, least: i32, most: u32) -> Field
+    ensures { λ r. ⌜ toldField r ≡ fieldAt (fromTo least most) (now (bytes .entry)) at ⌝ }
 {
     match number::decode::read(bytes, at) {
         Decoded::Refused(n) => Field::Refused(n),
         Decoded::Value { value, next } => {
-            let v = number::zigzag::unmap(value);
-            if (least as i64 <= v) & (v <= most as i64) {
-                return Field::Value(value as u32, next);
+            if (most as u64) < value {
+                return Field::Refused(12);
+            }
+            let n = value as u32;
+            if least <= unmapped_of(n) {
+                return Field::Value(n, next);
             }
             Field::Refused(12)
         }

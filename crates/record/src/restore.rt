@@ -23,13 +23,15 @@ use clock::state::PHASE_BELOW;
 use clock::state::TIME_BAD;
 use clock::state::fresh;
 
-// The greatest numbers that a phase, an offset left and a frequency are mapped to. Their ranges are as wide below 0 as above, so that
-// a number up to these is in range.
+// The greatest numbers that the signed fields are mapped to. But for the adjustment's, their ranges are as wide below 0 as above, so
+// that a number up to these is in range.
 const MAPPED_PHASE: u32 = 2 * (PHASE_BELOW as u32 - 1);
 
 const MAPPED_OFFSET: u32 = 2 * (MAX_OFFSET as u32);
 
 const MAPPED_FREQUENCY: u32 = 2 * (MAX_FREQUENCY as u32);
+
+const MAPPED_ADJUSTMENT: u32 = 2 * (RECORDER.most.0 as u32);
 
 // The answer of a reading: refusal 0 and the clock that was saved, or refusal 10, 11, 12 or 13 and the fresh clock.
 pub struct Restored {
@@ -115,7 +117,7 @@ fn loop_fields(bytes: &[u8], at: usize, c: Clock) -> Restored
 fn rate_fields(bytes: &[u8], at: usize, c: Clock) -> Restored
     ensures { λ r. ⌜ r ≡ fromRate (now (bytes .entry)) at c ⌝ }
 {
-    let d6 = signed(bytes, at, RECORDER.least.0, RECORDER.most.0);
+    let d6 = signed(bytes, at, RECORDER.least.0, MAPPED_ADJUSTMENT);
     let Field::Value(adjustment, n6) = d6 else {
         return refused(d6);
     };

@@ -1,6 +1,6 @@
 -- `number::decode::read` meets its contract: each answer by the laws of the bytes that were read on the way there.
 use mathlib.Core.Path.{_≡_, refl, sym, _∙_, ap}
-use Prim.Native.Nat.{ℕ, _+_, _*_, _%_}
+use Prim.Native.Nat.{ℕ, _+_, _*_, _-_, _%_, _<_, _≤_}
 use native.Mathlib.Omega.{arith}
 use borrow.Author.Needs.{needs}
 use Rattle.number.specs.Reading.{Found, number, refused, numberAt}
@@ -10,9 +10,10 @@ use Rattle.number.proofs.decode.read.Statement.{statement}
 use Rattle.number.proofs.decode.read.Tie as tie
 
 -- two bytes that say more, before the rest
-twice : (b₀ b₁ : ℕ) (x : Found) → before b₀ (before b₁ x) ≡ onto (b₀ % 128 + 128 * (b₁ % 128)) 16384 x
-twice b₀ b₁ (number v k) = ap (λ (m : ℕ). number m k) (omega arith)
-twice b₀ b₁ (refused n) = refl
+module _ (b₀ b₁ : ℕ) (p : (128 ≤ b₀) × (b₀ < 256)) (q : (128 ≤ b₁) × (b₁ < 256)) where
+  twice : (x : Found) → before b₀ (before b₁ x) ≡ onto (b₀ + 128 * b₁ - 16512) 16384 x
+  twice (number v k) = ap (λ (m : ℕ). number m k) (omega arith)
+  twice (refused n) = refl
 
 -- the first byte says more: what the rest gives
 after-first : (c : tie.Else2) {x : Found}
@@ -60,6 +61,9 @@ mul-read-long c = search needs
 add-read-long-2 : tie.Need-add-read-long-2
 add-read-long-2 c = search needs
 
+sub-read-long : tie.Need-sub-read-long
+sub-read-long c = search needs
+
 read-long-requires : tie.Need-read-long-requires
 read-long-requires c κs = search needs
 
@@ -70,27 +74,35 @@ returns-4 c =
     let a = e .before .before .before .before .before .args in
     c .read-long .ensures
     ∙ sym (after-first e (later-more _ _ _ (w .wide2 .result) (w .before .before .if3 .left) (w .wide2 .ensures .0) (c .before .if4 .taken))
-    ∙ twice (e .before .wide .result) (w .wide2 .result) (laterAt 3 (a .bytes .now) (a .at + 1 + 1)))
+    ∙ twice (e .before .wide .result) (w .wide2 .result) (e .if2 .left, e .before .wide .ensures .1) (c .before .if4 .taken, w .wide2 .ensures .1) (laterAt 3 (a .bytes .now) (a .at + 1 + 1)))
 
 returns-5 : tie.Need-returns-5
 returns-5 c =
     let w = c .before .before in
     sym (after-first (w .before .before .before) (later-zero _ _ _ (w .wide2 .result) (w .before .before .if3 .left) (w .wide2 .ensures .0) (c .if5 .taken)))
 
-mul-t18 : tie.Need-mul-t18
-mul-t18 c = search needs
+mul-t16 : tie.Need-mul-t16
+mul-t16 c = search needs
+
+add-t17 : tie.Need-add-t17
+add-t17 c = search needs
+
+sub-t18 : tie.Need-sub-t18
+sub-t18 c = search needs
 
 add-t19 : tie.Need-add-t19
 add-t19 c = search needs
 
-add-t20 : tie.Need-add-t20
-add-t20 c = search needs
-
 returns-6 : tie.Need-returns-6
 returns-6 c =
     let w = c .before .before in
-    sym
-    (after-first (w .before .before .before)
+    let e = w .before .before .before in
+    let a = e .before .before .before .before .before .args in
+    let less : e .before .wide .result + 128 * w .wide2 .result - 128 ≡ e .before .wide .result % 128 + 128 * w .wide2 .result =
+    omega (arith, e .if2 .left, e .before .wide .ensures .1) in
+    ap (λ (m : ℕ). number m (a .at + 1 + 1)) less
+    ∙ sym
+    (after-first e
     (later-last _ _ _ (w .wide2 .result) (w .before .before .if3 .left) (w .wide2 .ensures .0) (c .before .if4 .left) (c .if5 .left)))
 
 pub read-spec : {M : Type 1} → statement M
@@ -109,10 +121,12 @@ read-spec =
     add-read-long
     mul-read-long
     add-read-long-2
+    sub-read-long
     read-long-requires
     returns-4
     returns-5
-    mul-t18
+    mul-t16
+    add-t17
+    sub-t18
     add-t19
-    add-t20
     returns-6)

@@ -44,6 +44,10 @@ scale-next (suc f) scale h e =
 scaled : (scale x : ℕ) → x < 128 → scale * x ≤ scale * 127
 scaled scale x h = mul-le-mul-left scale (omega arith)
 
+-- a byte that says more, as its top bit and its group
+group : (scale b : ℕ) → 128 ≤ b → b < 256 → scale * b ≡ scale * 128 + scale * (b % 128)
+group scale b h l = ap (λ (m : ℕ). scale * m) (omega arith) ∙ mul-add scale 128 (b % 128)
+
 abbrev Inv-loop : tie.InvT-loop
 Inv-loop s at low n sum₀ scale₀ p₀ left₀ sum scale p left =
     (onto low 16384 (laterAt 3 s at) ≡ onto sum scale (laterAt left s p)) × ((scale * 128 ^ left ≡ 2 ^ 35) × (sum < scale))
@@ -67,9 +71,17 @@ module _ (w : tie.After-wide Inv-loop μ-loop) where
       let L = w .before .before .before .before .loop in
       scale-small (L .left) (L .scale) (w .before .before .before .loop-test .taken) (L .inv .1 .0)
 
-  -- the group
+  -- the byte, and its group
+  byte-scaled : let L = w .before .before .before .before .loop in L .scale * w .wide .result ≤ L .scale * 255
+  byte-scaled = mul-le-mul-left _ (omega (arith, w .wide .ensures .1))
+
   group-scaled : let L = w .before .before .before .before .loop in L .scale * (w .wide .result % 128) ≤ L .scale * 127
   group-scaled = scaled _ _ (omega arith)
+
+  less-top : 128 ≤ w .wide .result
+      → let L = w .before .before .before .before .loop in
+      L .scale * w .wide .result ≡ L .scale * 128 + L .scale * (w .wide .result % 128)
+  less-top h = group _ _ h (w .wide .ensures .1)
 
 loop-holds : tie.Need-loop-holds Inv-loop μ-loop
 loop-holds c = (refl, (refl, search needs))
@@ -86,10 +98,10 @@ wide-requires : tie.Need-wide-requires Inv-loop μ-loop
 wide-requires c κs = search needs
 
 mul-sum : tie.Need-mul-sum Inv-loop μ-loop
-mul-sum c = omega (arith, scale-bound c, group-scaled c)
+mul-sum c = omega (arith, scale-bound c, byte-scaled c)
 
 add-sum : tie.Need-add-sum Inv-loop μ-loop
-add-sum c = omega (arith, scale-bound c, group-scaled c)
+add-sum c = omega (arith, scale-bound c, byte-scaled c)
 
 add-p : tie.Need-add-p Inv-loop μ-loop
 add-p c = search needs
@@ -102,13 +114,13 @@ returns-2 c =
 returns-3 : tie.Need-returns-3 Inv-loop μ-loop
 returns-3 c =
     let w = c .before .before in
-    let L = w .before .before .before .before .loop in
-    let whole : w .wide .result % 128 ≡ w .wide .result = omega (arith, c .before .if2 .taken) in
-    ap (λ (m : ℕ). number (L .sum + L .scale * m) (L .p + 1)) whole
-    ∙ sym (read-on w (later-last _ _ _ (w .wide .result) (w .before .before .if1 .left) (w .wide .ensures .0) (c .before .if2 .taken) (c .if3 .left)))
+    sym (read-on w (later-last _ _ _ (w .wide .result) (w .before .before .if1 .left) (w .wide .ensures .0) (c .before .if2 .taken) (c .if3 .left)))
 
 mul-scale : tie.Need-mul-scale Inv-loop μ-loop
 mul-scale c = omega (arith, scale-bound (c .before))
+
+sub-sum : tie.Need-sub-sum Inv-loop μ-loop
+sub-sum c = omega (arith, less-top (c .before) (c .if2 .left))
 
 sub-left : tie.Need-sub-left Inv-loop μ-loop
 sub-left c = search needs
@@ -120,10 +132,12 @@ loop-again : tie.Need-loop-again Inv-loop μ-loop
 loop-again c =
     let w = c .before in
     let L = w .before .before .before .before .loop in
-    let s = w .before .before .before .before .before .before .args .bytes .now in (
+    let s = w .before .before .before .before .before .before .args .bytes .now in
+    let e : L .sum + L .scale * (w .wide .result % 128) ≡ L .sum + L .scale * w .wide .result - L .scale * 128 = omega (arith, less-top w (c .if2 .left)) in (
       read-on w (later-more _ _ _ (w .wide .result) (w .before .before .if1 .left) (w .wide .ensures .0) (c .if2 .left))
-          ∙ onto-before (L .sum) (L .scale) (w .wide .result) (laterAt (L .left - 1) s (L .p + 1)),
-      (scale-next (L .left) (L .scale) (w .before .before .before .loop-test .taken) (L .inv .1 .0), omega (arith, group-scaled w)),
+          ∙ onto-before (L .sum) (L .scale) (w .wide .result) (laterAt (L .left - 1) s (L .p + 1))
+          ∙ ap (λ (m : ℕ). onto m (L .scale * 128) (laterAt (L .left - 1) s (L .p + 1))) e,
+      (scale-next (L .left) (L .scale) (w .before .before .before .loop-test .taken) (L .inv .1 .0), omega (arith, e, group-scaled w)),
     )
 
 returns-4 : tie.Need-returns-4 Inv-loop μ-loop
@@ -145,6 +159,7 @@ read-long-spec =
     returns-2
     returns-3
     mul-scale
+    sub-sum
     sub-left
     loop-less
     loop-again

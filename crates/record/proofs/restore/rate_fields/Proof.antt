@@ -8,7 +8,7 @@ use lib.Dec.{lit<}
 use Rattle.clock.specs.declared.state.Clock.{Clock}
 use Rattle.record.specs.Inner.{upTo, ratePart, fromRate}
 use Rattle.record.proofs.Ranges.{byte}
-use Rattle.record.proofs.FieldLaws.{read-in}
+use Rattle.record.proofs.FieldLaws.{adjustment-field, read-in}
 use Rattle.record.proofs.Steps.{Before, went, stopped}
 use Rattle.record.proofs.restore.rate_fields.Statement.{statement}
 use Rattle.record.proofs.restore.rate_fields.Tie as tie
@@ -17,16 +17,16 @@ opened : (s : List ℕ) (at : ℕ) (c : Clock) → fromRate s at c ≡ ratePart 
 unfolding fromRate
 opened s at c = refl
 
-abbrev b6 : tie.After-struct-told2 → Before
+abbrev b6 : tie.After-struct-told → Before
 b6 c =
-    let i = c .before .before .before .args in
+    let i = c .before .before .args in
     record { all = _; field = _; rest = _; is = opened (i .bytes .now) (i .at) (i .c) }
 
 abbrev b7 : tie.After-known-told → Before
-b7 c = record { all = _; field = _; rest = _; is = went (b6 (c .before .before .before .before)) (c .before .before .before .signed .ensures) (c .before .d6 .given .1) }
+b7 c = record { all = _; field = _; rest = _; is = went (b6 (c .before .before .before .before)) (c .before .before .before .signed .ensures ∙ adjustment-field _ _) (c .before .d6 .given .1) }
 
 returns : tie.Need-returns
-returns c = stopped (b6 (c .before .before .before .before)) (c .before .before .before .signed .ensures) (c .before .enum-told .given .1) (c .refused .ensures)
+returns c = stopped (b6 (c .before .before .before .before)) (c .before .before .before .signed .ensures ∙ adjustment-field _ _) (c .before .enum-told .given .1) (c .refused .ensures)
 
 returns-2 : tie.Need-returns-2
 returns-2 c = stopped (b7 (c .before .before .before .before)) (c .before .before .before .plain .ensures) (c .before .enum-told2 .given .1) (c .refused2 .ensures)
