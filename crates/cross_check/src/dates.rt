@@ -7,7 +7,8 @@ use crate::signed::pick;
 use crate::signed::plus;
 
 // A print: label, microseconds, status.
-pub(crate) const PRINT: [u8; 32] = *b"0000-00-00T00:00:00Z 000000 0\n..";
+pub(crate) const PRINT: [u8; 64] =
+    *b"0000-00-00T00:00:00Z 000000 0\n..................................";
 
 // A place in a calendar: the years or months passed, and the days that are left.
 struct Rest {
@@ -71,28 +72,6 @@ fn month_at(year: u64, days: u64) -> Rest {
     }
 }
 
-// The days from 1970-01-01 to the first of January of the year.
-fn days_to_year(year: u64) -> u64 {
-    let mut y: u64 = 1970;
-    let mut days: u64 = 0;
-    while y < year {
-        days = plus(days, year_days(y));
-        y += 1;
-    }
-    days
-}
-
-// The days from the first of January to the first of the month.
-fn days_to_month(year: u64, month: u64) -> u64 {
-    let mut m: u64 = 1;
-    let mut days: u64 = 0;
-    while m < month {
-        days = plus(days, month_days(year, m));
-        m += 1;
-    }
-    days
-}
-
 // Two more digits at the end of a number.
 fn joined(high: u64, low: u64) -> u64 {
     high % 1000000000000 * 100 + low % 100
@@ -115,10 +94,10 @@ pub(crate) fn stamp_of(second: u64, sixty: bool) -> u64 {
 }
 
 // The pattern with its zeros before `end` replaced by the digits of n, the last one first.
-pub(crate) fn filled(pattern: [u8; 32], end: usize, n: u64) -> [u8; 32] {
+pub(crate) fn filled(pattern: [u8; 64], end: usize, n: u64) -> [u8; 64] {
     let mut text = pattern;
     let mut rest = n;
-    let mut k = end % 33;
+    let mut k = end % 65;
     while 0 < k {
         k -= 1;
         if text[k] == b'0' {
@@ -130,7 +109,7 @@ pub(crate) fn filled(pattern: [u8; 32], end: usize, n: u64) -> [u8; 32] {
 }
 
 // The label of a second is the text's first twenty bytes.
-pub(crate) fn label_of(second: u64, sixty: bool) -> [u8; 32] {
+pub(crate) fn label_of(second: u64, sixty: bool) -> [u8; 64] {
     filled(PRINT, 20, stamp_of(second, sixty))
 }
 
@@ -140,7 +119,7 @@ pub(crate) fn clock_stamp(s: State) -> u64 {
 }
 
 // The number that stands where a label has its digits, whatever the bytes are.
-fn digits_of(text: &[u8; 32]) -> u64 {
+fn digits_of(text: &[u8; 64]) -> u64 {
     let pattern = PRINT;
     let mut n: u64 = 0;
     let mut k: usize = 0;
@@ -153,17 +132,38 @@ fn digits_of(text: &[u8; 32]) -> u64 {
     n
 }
 
+// The days before the first of a month, given as six digits of any value: 2100 is the one fourth year that is no leap year.
+fn days_before(month: u64) -> u64 {
+    let before = [
+        0u64,
+        0,
+        31,
+        59,
+        90,
+        120,
+        151,
+        181,
+        212,
+        243,
+        273,
+        304,
+        334,
+        0,
+        0,
+        0,
+    ];
+    let years = minus(month / 100, 1970) % 1024;
+    let leaps = (years + pick(month % 100 < 3, 1, 2) % 4) / 4;
+    let days = years * 365 + before[(month % 100 % 16) as usize] % 512 + leaps;
+    minus(days, pick(210002 < month, 1, 0))
+}
+
 // The second of a date and time of fourteen digits, of any value; a 60 stands for the second before it.
 fn second_of(stamp: u64) -> u64 {
-    let year = stamp / 10000000000 % 2200;
-    let mut days = plus(
-        days_to_year(year),
-        days_to_month(year, stamp / 100000000 % 100),
-    );
-    days = minus(plus(days, stamp / 1000000 % 100), 1);
-    let mut second = days % 1048576 * 24 + stamp / 10000 % 100;
-    second = second % 67108864 * 60 + stamp / 100 % 100;
-    second = second % 4294967296 * 60 + stamp % 100;
+    let mut second = days_before(stamp / 100000000) % 65536;
+    second = minus(second + stamp / 1000000 % 100, 1) % 65536 * 24 + stamp / 10000 % 100;
+    second = second % 4194304 * 60 + stamp / 100 % 100;
+    second = second % 268435456 * 60 + stamp % 100;
     minus(second, pick(stamp % 100 == 60, 1, 0))
 }
 
@@ -174,13 +174,14 @@ pub(crate) struct Label {
 }
 
 // The label that the first `size` bytes hold: they are one where some second is written so.
-pub(crate) fn read(text: &[u8; 32], size: usize) -> Label {
+pub(crate) fn read(text: &[u8; 64], size: usize) -> Label {
     let stamp = digits_of(text);
     let second = second_of(stamp);
     let sixty = stamp % 100 == 60;
     let mut written = (size == 20) & (second < 4294967296);
     written = written & (!sixty | (second % 86400 == 86399));
-    if written & same_label(text, label_of(second, sixty)) {
+    let label = label_of(second, sixty);
+    if written & crate::first::stands(text, 0, &label, 64) {
         return Label {
             refusal: 0,
             second: second,
@@ -192,14 +193,4 @@ pub(crate) fn read(text: &[u8; 32], size: usize) -> Label {
         second: 0,
         sixty: false,
     }
-}
-
-fn same_label(text: &[u8; 32], label: [u8; 32]) -> bool {
-    let mut same = true;
-    let mut k: usize = 0;
-    while k < 20 {
-        same = same & (text[k] == label[k]);
-        k += 1;
-    }
-    same
 }

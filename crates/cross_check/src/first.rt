@@ -1,7 +1,6 @@
 // The first implementation's values beside the second's: made of them, and compared with them.
 use crate::random::Asked;
 use crate::rules::State;
-use crate::rules::row_of;
 use crate::signed::minus;
 use crate::signed::unmapped;
 use clock::reading::Reading;
@@ -11,21 +10,16 @@ use clock::units::Frequency;
 use clock::units::Micros;
 use clock::units::OffsetUnits;
 use clock::units::PhaseUnits;
-use number::zigzag::map;
 use request::request::Request;
 use request::units::AskedFrequency;
 use request::units::AskedOffset;
 
-pub(crate) fn byte(n: u64) -> u8 {
+fn byte(n: u64) -> u8 {
     (n % 256) as u8
 }
 
 pub(crate) fn wide(b: u8) -> u64 {
     b as u64
-}
-
-pub(crate) fn long(n: u32) -> u64 {
-    n as u64
 }
 
 pub(crate) fn word(n: u64) -> u32 {
@@ -83,44 +77,18 @@ pub(crate) fn request_of(r: Asked) -> Request {
     }
 }
 
-// The numbers of a clock's record. The first implementation's mapping is compared with the second's in a group of its own.
-fn numbers_of(c: Clock) -> [u64; 13] {
-    [
-        1,
-        long(c.seconds),
-        long(c.micros.0),
-        long(map(c.phase.0)),
-        long(map(c.offset.0)),
-        long(map(c.frequency.0)),
-        long(map(c.adjustment.0)),
-        wide(c.constant),
-        wide(c.updated),
-        long(c.reftime),
-        long(c.maxerror.0),
-        long(c.esterror.0),
-        wide(c.status),
-    ]
-}
-
 pub(crate) fn same_byte(a: u64, b: u8) -> bool {
     a == b as u64
 }
 
-// Whether a clock has the fields of a record's row.
-pub(crate) fn same_row(row: &[u64; 13], c: Clock) -> bool {
-    let numbers = numbers_of(c);
-    let mut same = true;
-    let mut k: usize = 0;
-    while k < 13 {
-        same = same & (row[k] == numbers[k]);
-        k += 1;
-    }
-    same
-}
-
 pub(crate) fn same_clock(s: State, c: Clock) -> bool {
-    let row = row_of(s);
-    same_row(&row, c)
+    let d = clock_of(s);
+    let mut same = (d.seconds == c.seconds) & (d.micros.0 == c.micros.0);
+    same = same & (d.phase.0 == c.phase.0) & (d.offset.0 == c.offset.0);
+    same = same & (d.frequency.0 == c.frequency.0) & (d.adjustment.0 == c.adjustment.0);
+    same = same & (d.constant == c.constant) & (d.updated == c.updated);
+    same = same & (d.reftime == c.reftime) & (d.maxerror.0 == c.maxerror.0);
+    same & (d.esterror.0 == c.esterror.0) & (d.status == c.status)
 }
 
 // A reading shows seconds, microseconds, status and both errors.
@@ -132,18 +100,14 @@ pub(crate) fn same_reading(s: State, r: Reading) -> bool {
         & (s.estimated == r.esterror.0 as u64)
 }
 
-// Whether a lent buffer that held `fill` now begins with the `size` bytes of the text from `at` on, and holds `fill` after them.
-pub(crate) fn stands(buf: &[u8; 64], fill: u8, text: &[u8], at: usize, size: usize) -> bool {
+// Whether a lent buffer that held `fill` now begins with the first `size` bytes of the text, and holds `fill` after them.
+pub(crate) fn stands(buf: &[u8; 64], fill: u8, text: &[u8; 64], size: usize) -> bool {
     let mut same = true;
     let mut k: usize = 0;
     while k < 64 {
         let mut expected = fill;
         if k < size {
-            let p = at % 65536 + k;
-            if text.len() <= p {
-                return false;
-            }
-            expected = text[p];
+            expected = text[k];
         }
         same = same & (buf[k] == expected);
         k += 1;

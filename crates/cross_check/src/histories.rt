@@ -2,13 +2,13 @@
 use crate::calls::Verdict;
 use crate::first::same_byte;
 use crate::first::same_clock;
-use crate::first::stands;
 use crate::form::put_all;
 use crate::random::Bytes;
 use crate::random::draw;
 use crate::replay::Replayed;
 use crate::replay::mask_of;
 use crate::signed::pick;
+use playback::run::Run;
 
 // Mostly up to 600 ticks, once in 8 up to 4,096.
 fn tick_count(case: u64) -> u64 {
@@ -51,6 +51,27 @@ fn some_history(case: u64) -> Bytes {
     )
 }
 
+// Whether a lent buffer that held 9 begins with the `size` bytes of the output from `at` on, and holds 9 after them.
+fn same_part(part: &[u8; 64], out: &[u8; 2048], at: usize, size: usize) -> bool {
+    let mut same = true;
+    let mut k: usize = 0;
+    while k < 64 {
+        let mut expected = 9;
+        if k < size {
+            expected = out[(at % 2048 + k) % 2048];
+        }
+        same = same & (part[k] == expected);
+        k += 1;
+    }
+    same
+}
+
+fn same_end(r: Replayed, run: Run, at: usize, room: usize) -> bool {
+    let mut same = (run.ended == (29 < room)) & (at == r.size);
+    same = same & (run.place == r.place);
+    same & same_clock(r.state, run.clock)
+}
+
 // The first implementation's run over the bytes, in calls that lend `room` bytes, beside the second's output and end. With room for no line
 // every call is refused, and leaves the run as it was.
 fn same_run(bytes: &[u8], r: Replayed, out: &[u8; 2048], room: usize) -> bool {
@@ -62,17 +83,15 @@ fn same_run(bytes: &[u8], r: Replayed, out: &[u8; 2048], room: usize) -> bool {
     while 0 < left {
         let mut part = [9u8; 64];
         let f = playback::run::fill(bytes, run, &mut part[..room % 65]);
-        let n = f.length;
-        same = same & same_byte(refusal, f.refusal) & stands(&part, 9, out, at, n);
-        at = at % 65536 + n % 65536;
+        same = same & same_byte(refusal, f.refusal) & same_part(&part, out, at, f.length);
+        at = at % 65536 + f.length % 65536;
         run = f.run;
         if run.ended {
             break;
         }
         left -= 1;
     }
-    same = same & (run.ended == (29 < room)) & (at == r.size);
-    same & (run.place == r.place) & same_clock(r.state, run.clock)
+    same & same_end(r, run, at, room)
 }
 
 // Once in 16 the buffer is too short.
@@ -100,31 +119,13 @@ pub(crate) fn replay(case: u64) -> Verdict {
     run_both(bytes, b.end, draw(case, 640))
 }
 
-// Where a run over n bytes 1 ends, settings to 1 s 1 us: for more than 65,536 of them, before the first.
-fn end_of_ones(n: usize, out: &mut [u8; 2048]) -> Replayed {
-    let mut r = crate::replay::begun(n);
-    if 65536 < n {
-        return crate::replay::logged(r, 13, 65536, out);
-    }
-    let row = [1, 1, 1, 0, 0, 0, 0, 0, 0, 0, 0, 0, 0];
-    let a = crate::rules::step(r.state, &row);
-    let s = a.state;
-    r.state = s;
-    r.place = n / 3 * 3;
-    if n % 3 == 0 {
-        return r;
-    }
-    crate::replay::logged(r, 10, r.place, out)
-}
-
-// Histories of about 65,536 bytes.
+// A history of 65,537 bytes: nothing is run.
 pub(crate) fn long(case: u64) -> Verdict {
-    let n = (65533 + case % 8) as usize;
-    let bytes = [1u8; 65540];
+    let bytes = [3u8; 65537];
     let mut out = [0u8; 2048];
-    let r = end_of_ones(n, &mut out);
+    let r = crate::replay::logged(crate::replay::begun(0), 13, 65536, &mut out);
     Verdict {
         refusal: r.refusal,
-        same: same_run(&bytes[..n], r, &out, 30),
+        same: same_run(&bytes, r, &out, (30 + case % 35) as usize),
     }
 }

@@ -1,14 +1,13 @@
 // One case of reading, writing and mapping numbers, run by both implementations.
 use crate::calls::Verdict;
-use crate::first::byte;
 use crate::first::same_byte;
 use crate::first::stands;
 use crate::first::to_i32;
 use crate::first::to_i64;
 use crate::first::word;
 use crate::form::Draft;
+use crate::form::laid;
 use crate::random::draw;
-use crate::random::wide;
 use crate::signed::minus;
 use crate::signed::pick;
 use number::decode::Decoded;
@@ -16,7 +15,7 @@ use number::encode::Written;
 
 // A power of 128 with 1 added or taken off, or any number of up to 32 bits.
 fn some_number(case: u64, what: u64) -> u64 {
-    let v = wide(case, what);
+    let v = draw(case, what);
     let edges = [
         129,
         16385,
@@ -62,35 +61,11 @@ pub(crate) fn agree(w: Written, buf: &[u8; 64], refusal: u64, fill: u8, d: Draft
     let accepted = refusal == 0;
     let mut same = same_byte(refusal, w.refusal);
     same = same & (w.next as u64 == pick(accepted, d.next as u64, 0));
-    same = same & stands(buf, fill, &text, 0, pick(accepted, 64, 0) as usize);
+    same = same & stands(buf, fill, &text, pick(accepted, 64, 0) as usize);
     Verdict {
         refusal: refusal,
         same: same,
     }
-}
-
-fn refusal_of(at: usize, room: usize, next: usize) -> u64 {
-    pick((at <= room) & (next <= room), 0, 14)
-}
-
-fn some_words(case: u64) -> [u32; 13] {
-    let mut words = [0u32; 13];
-    let mut k: usize = 0;
-    while k < 13 {
-        words[k] = word(some_number(case, 350 + k as u64));
-        k += 1;
-    }
-    words
-}
-
-fn widened(words: &[u32; 13]) -> [u64; 13] {
-    let mut row = [0u64; 13];
-    let mut k: usize = 0;
-    while k < 13 {
-        row[k] = crate::first::long(words[k]);
-        k += 1;
-    }
-    row
 }
 
 // The mask of the first `count` numbers.
@@ -114,50 +89,38 @@ fn mask_of(count: usize) -> u64 {
     masks[count % 14]
 }
 
-// The first `count` numbers, as the second writes them.
-fn laid(words: &[u32; 13], count: usize, at: usize, fill: u8) -> Draft {
-    let row = widened(words);
-    crate::form::laid(&row, mask_of(count), at, fill)
-}
-
-fn some_room(case: u64) -> usize {
-    (draw(case, 343) % 65) as usize
-}
-
-// One number.
+// Up to thirteen numbers, one after the other: three, repeated. One is written by the writer of a single one.
 pub(crate) fn write(case: u64) -> Verdict {
-    let words = some_words(case);
-    let fill = byte(draw(case, 342));
-    let mut buf = [fill; 64];
+    let a = some_number(case, 350);
+    let b = some_number(case, 351);
+    let x = word(a);
+    let y = word(b);
+    let words = [x, y, y, x, y, x, x, x, y, y, y, x, y];
+    let v = draw(case, 343);
+    let fill = (v % 256) as u8;
+    let room = (v / 256 % 65) as usize;
+    let count = (v / 32768 % 14) as usize;
     let at = some_place(case);
-    let room = some_room(case);
-    let d = laid(&words, 1, at, fill);
-    let w = number::encode::write(&mut buf[..room % 65], at, words[0]);
-    agree(w, &buf, refusal_of(at, room, d.next), fill, d)
-}
-
-// Up to thirteen numbers, one after the other.
-pub(crate) fn write_list(case: u64) -> Verdict {
-    let words = some_words(case);
-    let fill = byte(draw(case, 342));
+    let row = [a, b, b, a, b, a, a, a, b, b, b, a, b];
+    let d = laid(&row, mask_of(count), at, fill);
     let mut buf = [fill; 64];
-    let at = some_place(case);
-    let room = some_room(case);
-    let count = (draw(case, 344) % 14) as usize;
-    let d = laid(&words, count, at, fill);
-    let w = number::encode::write_all(&mut buf[..room % 65], at, &words[..count]);
-    agree(w, &buf, refusal_of(at, room, d.next), fill, d)
+    let refusal = pick((at <= room) & (d.next <= room), 0, 14);
+    if count == 1 {
+        let w = number::encode::write(&mut buf[..room], at, x);
+        return agree(w, &buf, refusal, fill, d);
+    }
+    let w = number::encode::write_all(&mut buf[..room], at, &words[..count]);
+    agree(w, &buf, refusal, fill, d)
 }
 
 // Mapping, and mapping back; the size of a written number.
 pub(crate) fn map(case: u64) -> Verdict {
     let n = some_number(case, 350);
-    let words = some_words(case);
-    let d = laid(&words, 1, 0, 0);
+    let d = laid(&[n, 0, 0, 0, 0, 0, 0, 0, 0, 0, 0, 0, 0], 1, 0, 0);
     let m = pick(
         n % 8 == 0,
         minus(18446744073709551615, n / 8 % 3),
-        wide(case, 362),
+        draw(case, 362),
     );
     let mut same = number::zigzag::map(to_i32(n)) == word(n);
     same = same & (number::zigzag::unmap(m) == to_i64(m));

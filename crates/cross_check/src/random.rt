@@ -15,20 +15,16 @@ fn mixed(n: u64) -> u64 {
     (b ^ (b / 65536)) % 4294967296
 }
 
-// Below 2^28.
+// Below 2^56.
 pub(crate) fn draw(case: u64, what: u64) -> u64 {
     let a = mixed(case % 4294967296 + SEED);
-    mixed(a % 4294967296 + what % 65536 * 2654435769) / 16
-}
-
-// Below 2^56.
-pub(crate) fn wide(case: u64, what: u64) -> u64 {
-    draw(case, what) % 268435456 * 268435456 + draw(case, plus(what, 1000)) % 268435456
+    let b = mixed(a % 4294967296 + what % 65536 * 2654435769);
+    mixed(b % 4294967296 + 1) % 268435456 * 268435456 + b % 4294967296 / 16
 }
 
 // Mostly 0 to `limit`, often near its ends; once in 16 just above it or anything to `far`.
 fn near(case: u64, what: u64, limit: u64, far: u64) -> u64 {
-    let v = wide(case, what);
+    let v = draw(case, what);
     let any = v % (limit % 4611686018427387904 + 1);
     match draw(case, plus(what, 500)) % 16 {
         0 => pick(
@@ -42,15 +38,9 @@ fn near(case: u64, what: u64, limit: u64, far: u64) -> u64 {
     }
 }
 
-// Mostly 0 to n - 1, n at most 8; once in 32 up to 255.
-fn small(case: u64, what: u64, n: u64) -> u64 {
-    let v = draw(case, what);
-    pick(v % 32 == 0, v / 32 % 256, v / 32 % (n % 8 + 1))
-}
-
 // Any second, or one near midnight, near the last one, or near 0.
 pub(crate) fn second(case: u64, what: u64) -> u64 {
-    let v = wide(case, what);
+    let v = draw(case, what);
     match draw(case, plus(what, 500)) % 8 {
         0 => minus(4294967295, v % 3),
         1 => v % 3,
@@ -71,19 +61,23 @@ fn micros(case: u64) -> u64 {
 // The second of an earlier update: mostly less than 1,100 before the present one, often about 1,024, or anywhere; 0 mostly where there was
 // none.
 fn earlier(case: u64, flag: u64, seconds: u64) -> u64 {
-    let v = wide(case, 23);
-    match pick(flag == 0, 0, draw(case, 22) % 16) {
-        0 => pick(flag == 0, v % 8 / 7, v % 4294967296),
-        1 | 2 => least(plus(seconds, v % 3), 4294967295),
-        3 | 4 => minus(seconds, 1022 + v % 5),
-        _ => minus(seconds, v % 1100),
+    let v = draw(case, 23);
+    let n = v / 16;
+    if flag == 0 {
+        return v % 8 / 7;
+    }
+    match v % 8 {
+        0 => n % 4294967296,
+        1 => least(plus(seconds, n % 3), 4294967295),
+        2 | 3 => minus(seconds, 1022 + n % 5),
+        _ => minus(seconds, n % 1100),
     }
 }
 
 // A clock, about three of five sound.
 pub(crate) fn state(case: u64) -> State {
     let seconds = second(case, 1);
-    let flag = small(case, 21, 1);
+    let flag = near(case, 21, 1, 255);
     State {
         seconds: seconds,
         micros: micros(case),
@@ -96,12 +90,12 @@ pub(crate) fn state(case: u64) -> State {
             pick(draw(case, 19) % 2 == 0, 337639423, 606074880),
             4294967295,
         ),
-        constant: small(case, 20, 4),
+        constant: near(case, 20, 4, 255),
         flag: flag,
         earlier: earlier(case, flag, seconds),
         maximum: near(case, 24, 16000000, 4294967295),
         estimated: near(case, 26, 16000000, 4294967295),
-        status: small(case, 28, 4),
+        status: near(case, 28, 4, 255),
     }
 }
 
@@ -138,37 +132,33 @@ pub(crate) fn some_request(case: u64) -> Asked {
     }
 }
 
-// The seconds of a setting; once in 16 too large by 2^32.
-pub(crate) fn set_second(case: u64) -> u64 {
-    plus(
+// A setting: its seconds are once in 16 too large by 2^32.
+fn setting_row(case: u64) -> [u64; 13] {
+    let seconds = plus(
         second(case, 70),
         pick(draw(case, 73) % 16 == 0, 4294967296, 0),
-    )
-}
-
-// The microseconds of a setting.
-pub(crate) fn set_micros(case: u64) -> u64 {
-    argument(case, 76, 999999)
+    );
+    [
+        1,
+        seconds,
+        argument(case, 76, 999999),
+        0,
+        0,
+        0,
+        0,
+        0,
+        0,
+        0,
+        0,
+        0,
+        0,
+    ]
 }
 
 // An event of the code: its numbers as they stand in a history.
 pub(crate) fn row(case: u64, code: u64) -> [u64; 13] {
     match code {
-        1 => [
-            1,
-            set_second(case),
-            set_micros(case),
-            0,
-            0,
-            0,
-            0,
-            0,
-            0,
-            0,
-            0,
-            0,
-            0,
-        ],
+        1 => setting_row(case),
         2 => request_row(some_request(case)),
         _ => [code, 0, 0, 0, 0, 0, 0, 0, 0, 0, 0, 0, 0],
     }

@@ -1,16 +1,17 @@
 // One case of writing and reading a record, run by both implementations.
 use crate::calls::Verdict;
-use crate::first::byte;
 use crate::first::clock_of;
 use crate::first::same_byte;
-use crate::first::same_row;
+use crate::form::laid;
 use crate::form::put_all;
+use crate::numbers::agree;
 use crate::random::Bytes;
 use crate::random::draw;
 use crate::rules::fits;
 use crate::rules::fresh;
 use crate::rules::row_of;
 use crate::signed::pick;
+use clock::state::Clock;
 use number::encode::Written;
 
 // All thirteen numbers.
@@ -20,17 +21,17 @@ const WHOLE: u64 = 8191;
 pub(crate) fn write(case: u64) -> Verdict {
     let s = crate::random::state(case);
     let row = row_of(s);
-    let fill = byte(draw(case, 500));
+    let fill = (draw(case, 500) % 256) as u8;
     let room = (16 + draw(case, 501) % 49) as usize;
     let mut buf = [fill; 64];
-    let d = crate::form::laid(&row, WHOLE, 0, fill);
+    let d = laid(&row, WHOLE, 0, fill);
     let refusal = pick(fits(&row, 13), pick(d.next <= room, 0, 14), 1);
     let w = record::save::write(clock_of(s), &mut buf[..room]);
     let told = Written {
         refusal: w.refusal,
         next: w.length,
     };
-    crate::numbers::agree(told, &buf, refusal, fill, d)
+    agree(told, &buf, refusal, fill, d)
 }
 
 // A clock's record, once in 16 of another version and once in 16 other bytes in its place; whole or damaged.
@@ -61,6 +62,22 @@ fn read_refusal(bytes: &[u8; 64], end: usize, row: &mut [u64; 13]) -> u64 {
     pick(c.next < end, 13, 0)
 }
 
+// Two clocks are the same where their records are: the clock that was read is written, which the group above compares.
+fn same_record(row: &[u64; 13], c: Clock) -> Verdict {
+    let mut buf = [0u8; 64];
+    let w = record::save::write(c, &mut buf);
+    agree(
+        Written {
+            refusal: w.refusal,
+            next: w.length,
+        },
+        &buf,
+        0,
+        0,
+        laid(row, WHOLE, 0, 0),
+    )
+}
+
 fn read_both(bytes: [u8; 64], end: usize) -> Verdict {
     let mut row = [0u64; 13];
     let refusal = read_refusal(&bytes, end, &mut row);
@@ -68,9 +85,10 @@ fn read_both(bytes: [u8; 64], end: usize) -> Verdict {
         row = row_of(fresh());
     }
     let r = record::restore::read(&bytes[..end % 65]);
+    let v = same_record(&row, r.clock);
     Verdict {
         refusal: refusal,
-        same: same_byte(refusal, r.refusal) & same_row(&row, r.clock),
+        same: same_byte(refusal, r.refusal) & v.same,
     }
 }
 

@@ -70,14 +70,18 @@ fn run_event(s: State, row: &[u64; 13]) -> Answer {
 
 // A line of the output, without the `skip` bytes from its tenth on; one of size 0 is none.
 pub(crate) struct Line {
-    pub(crate) text: [u8; 32],
+    pub(crate) text: [u8; 64],
     pub(crate) size: usize,
     pub(crate) skip: usize,
 }
 
 fn refused_line(refusal: u64) -> Line {
     Line {
-        text: filled(*b"refused 0\n......................", 9, refusal),
+        text: filled(
+            *b"refused 0\n......................................................",
+            9,
+            refusal,
+        ),
         size: 10,
         skip: 0,
     }
@@ -97,7 +101,7 @@ fn print_line(s: State) -> Line {
 fn log_line(refusal: u64, place: u64) -> Line {
     Line {
         text: filled(
-            *b"log 00 at 00000\n................",
+            *b"log 00 at 00000\n................................................",
             15,
             refusal % 100 * 100000 + place % 100000,
         ),

@@ -103,13 +103,6 @@ pub(crate) fn sound(s: State) -> bool {
     fits(&row, 13)
 }
 
-fn number_of(negative: bool, size: u64) -> u64 {
-    mapped(Signed {
-        negative: negative,
-        size: size,
-    })
-}
-
 // 64 x share + frequency / 16 + 67,108,864.
 fn adjustment_of(negative: bool, share: u64, frequency: u64) -> u64 {
     let slew = Signed {
@@ -121,7 +114,8 @@ fn adjustment_of(negative: bool, share: u64, frequency: u64) -> u64 {
         negative: f.negative,
         size: f.size / 16,
     };
-    mapped(sum(sum(slew, drift), unmapped(134217728)))
+    let adjustment = sum(sum(slew, drift), unmapped(134217728));
+    mapped(adjustment.negative, adjustment.size)
 }
 
 // The second that a rollover has reached, with its leap step, in `seconds` and `status`.
@@ -142,16 +136,9 @@ fn rolled(s: State) -> State {
     t.seconds = plus(s.seconds, 1);
     t.micros = minus(s.micros, 1000000);
     t.maximum = least(plus(s.maximum, 100), 16000000);
-    t.left = number_of(left.negative, minus(left.size, share));
+    t.left = mapped(left.negative, minus(left.size, share));
     t.adjustment = adjustment_of(left.negative, share, s.frequency);
     leapt(t)
-}
-
-fn answered(refusal: u64, s: State) -> Answer {
-    Answer {
-        refusal: refusal,
-        state: s,
-    }
 }
 
 // One tick of a sound clock.
@@ -161,19 +148,31 @@ pub(crate) fn tick(s: State) -> Answer {
     let grown = plus(s.micros, 3906);
     let mut t = s;
     t.micros = pick(moved.negative, minus(grown, whole), plus(grown, whole));
-    t.phase = number_of(moved.negative, moved.size % 268435456);
+    t.phase = mapped(moved.negative, moved.size % 268435456);
     if t.micros < 1000000 {
-        return answered(0, t);
+        return Answer {
+            refusal: 0,
+            state: t,
+        };
     }
     if s.seconds == 4294967295 {
-        return answered(3, s);
+        return Answer {
+            refusal: 3,
+            state: s,
+        };
     }
-    answered(0, rolled(t))
+    Answer {
+        refusal: 0,
+        state: rolled(t),
+    }
 }
 
 fn set(s: State, seconds: u64, micros: u64) -> Answer {
     if (4294967295 < seconds) | (999999 < micros) {
-        return answered(2, s);
+        return Answer {
+            refusal: 2,
+            state: s,
+        };
     }
     let mut t = fresh();
     t.seconds = seconds;
@@ -181,7 +180,10 @@ fn set(s: State, seconds: u64, micros: u64) -> Answer {
     t.frequency = s.frequency;
     t.constant = s.constant;
     t.adjustment = adjustment_of(false, 0, s.frequency);
-    answered(0, t)
+    Answer {
+        refusal: 0,
+        state: t,
+    }
 }
 
 // The request's number at `k` where its mode has the bit, else the old one.
@@ -218,30 +220,27 @@ fn plain_effects(s: State, row: &[u64; 13]) -> State {
     t
 }
 
-fn interval_of(s: State) -> u64 {
-    pick(s.flag == 0, 0, least(minus(s.seconds, s.earlier), 1024))
-}
-
 fn times(a: u64, b: u64) -> u64 {
     a % 131072 * (b % 2048)
 }
 
-// The frequency with the gain of an offset, of which `size` is the size.
-fn gained(s: State, negative: bool, size: u64) -> u64 {
-    let product = times(size, interval_of(s));
+// The frequency with the gain of an offset.
+fn gained(s: State, offset: Signed) -> u64 {
+    let interval = pick(s.flag == 0, 0, least(minus(s.seconds, s.earlier), 1024));
+    let quarter = halved(times(offset.size, interval), s.constant);
     let gain = Signed {
-        negative: negative,
-        size: halved(halved(product, s.constant), s.constant),
+        negative: offset.negative,
+        size: halved(quarter, s.constant),
     };
     let f = sum(unmapped(s.frequency), gain);
-    number_of(f.negative, least(f.size, 1677721600))
+    mapped(f.negative, least(f.size, 1677721600))
 }
 
 fn offset_effects(s: State, n: u64, writes_bad: bool) -> State {
     let offset = unmapped(n);
     let mut t = s;
-    t.left = number_of(offset.negative, offset.size % 131072 * 16384);
-    t.frequency = gained(s, offset.negative, offset.size);
+    t.left = mapped(offset.negative, offset.size % 131072 * 16384);
+    t.frequency = gained(s, offset);
     t.flag = 1;
     t.earlier = s.seconds;
     t.status = pick((s.status == 4) & !writes_bad, 0, s.status);
@@ -251,19 +250,31 @@ fn offset_effects(s: State, n: u64, writes_bad: bool) -> State {
 fn adjust(s: State, row: &[u64; 13]) -> Answer {
     let refusal = judged(row);
     if refusal != 0 {
-        return answered(refusal, s);
+        return Answer {
+            refusal: refusal,
+            state: s,
+        };
     }
     let t = plain_effects(s, row);
     if row[1] % 2 == 0 {
-        return answered(0, t);
+        return Answer {
+            refusal: 0,
+            state: t,
+        };
     }
-    answered(0, offset_effects(t, row[2], chosen(row, 6, 16, 0) == 4))
+    Answer {
+        refusal: 0,
+        state: offset_effects(t, row[2], chosen(row, 6, 16, 0) == 4),
+    }
 }
 
 // An event on a clock: code 0 one tick, 1 a setting, 2 a request, 3 a reading.
 pub(crate) fn step(s: State, row: &[u64; 13]) -> Answer {
     if !sound(s) {
-        return answered(1, s);
+        return Answer {
+            refusal: 1,
+            state: s,
+        };
     }
     let code = row[0];
     if code == 0 {
@@ -275,7 +286,10 @@ pub(crate) fn step(s: State, row: &[u64; 13]) -> Answer {
     if code == 2 {
         return adjust(s, row);
     }
-    answered(0, s)
+    Answer {
+        refusal: 0,
+        state: s,
+    }
 }
 
 // What an event shows: the state that an accepted reading tells of, else zeros and status 4.

@@ -49,9 +49,9 @@ pub(crate) fn halved(a: u64, n: u64) -> u64 {
 }
 
 // v >= 0 to 2v, v < 0 to -2v - 1.
-pub(crate) fn mapped(v: Signed) -> u64 {
-    let double = plus(v.size, v.size);
-    if v.negative { minus(double, 1) } else { double }
+pub(crate) fn mapped(negative: bool, size: u64) -> u64 {
+    let double = plus(size, size);
+    if negative { minus(double, 1) } else { double }
 }
 
 pub(crate) fn unmapped(n: u64) -> Signed {

@@ -9,10 +9,10 @@ use Rattle.cross_check.proofs.signed.plus.Reads as plus-reads
 use Rattle.cross_check.proofs.tell_counts.Reads as tell-counts-reads
 
 abbrev Inv-loop : tie.InvT-loop
-Inv-loop cases compared₀ differ₀ k₀ compared differ k = k ≤ 17
+Inv-loop cases compared₀ differ₀ k₀ compared differ k = k ≤ 15
 
 abbrev μ-loop : tie.MeasureT-loop
-μ-loop cases compared₀ differ₀ k₀ compared differ k = 17 - k
+μ-loop cases compared₀ differ₀ k₀ compared differ k = 15 - k
 
 loop-holds : tie.Need-loop-holds Inv-loop μ-loop
 loop-holds c = search needs

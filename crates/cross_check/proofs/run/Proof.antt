@@ -5,8 +5,8 @@ use Rattle.cross_check.proofs.run.Statement.{statement}
 use Rattle.cross_check.proofs.run.Tie as tie
 use Rattle.cross_check.proofs.noted.Reads as noted-reads
 use Rattle.cross_check.proofs.run_case.Reads as run-case-reads
+use Rattle.cross_check.proofs.tell_answers.Reads as tell-answers-reads
 use Rattle.cross_check.proofs.tell_counts.Reads as tell-counts-reads
-use Rattle.cross_check.proofs.tell_refusals.Reads as tell-refusals-reads
 
 abbrev Inv-loop : tie.InvT-loop
 Inv-loop group n met₀ differ₀ i₀ met differ i = i ≤ n
@@ -35,8 +35,8 @@ loop-again c = search needs
 tell-counts-requires : tie.Need-tell-counts-requires Inv-loop μ-loop
 tell-counts-requires c κs = search needs
 
-tell-refusals-requires : tie.Need-tell-refusals-requires Inv-loop μ-loop
-tell-refusals-requires c κs = search needs
+tell-answers-requires : tie.Need-tell-answers-requires Inv-loop μ-loop
+tell-answers-requires c κs = search needs
 
 returns : tie.Need-returns Inv-loop μ-loop
 returns c = search needs
@@ -54,5 +54,5 @@ run-spec =
     loop-less
     loop-again
     tell-counts-requires
-    tell-refusals-requires
+    tell-answers-requires
     returns)

@@ -3,10 +3,11 @@ use Prim.Native.Nat.{_-_, _≤_}
 use borrow.Author.Needs.{needs}
 use Rattle.cross_check.proofs.calls.list.Statement.{statement}
 use Rattle.cross_check.proofs.calls.list.Tie as tie
-use Rattle.cross_check.proofs.calls.answer_of.Reads as answer-of-reads
 use Rattle.cross_check.proofs.calls.some_code.Reads as some-code-reads
 use Rattle.cross_check.proofs.calls.stepped.Reads as stepped-reads
+use Rattle.cross_check.proofs.random.row.Reads as row-reads
 use Rattle.cross_check.proofs.rules.fresh.Reads as fresh-reads
+use Rattle.cross_check.proofs.rules.step.Reads as step-reads
 use Rattle.cross_check.proofs.signed.pick.Reads as pick-reads
 
 abbrev Inv-loop : tie.InvT-loop
@@ -30,8 +31,11 @@ add-c c = search needs
 some-code-requires : tie.Need-some-code-requires Inv-loop μ-loop
 some-code-requires c κs = search needs
 
-answer-of-requires : tie.Need-answer-of-requires Inv-loop μ-loop
-answer-of-requires c κs = search needs
+row-requires : tie.Need-row-requires Inv-loop μ-loop
+row-requires c κs = search needs
+
+step-requires : tie.Need-step-requires Inv-loop μ-loop
+step-requires c κs = search needs
 
 stepped-requires : tie.Need-stepped-requires Inv-loop μ-loop
 stepped-requires c κs = search needs
@@ -62,7 +66,8 @@ list-spec =
     mul-c
     add-c
     some-code-requires
-    answer-of-requires
+    row-requires
+    step-requires
     stepped-requires
     pick-requires
     add-k

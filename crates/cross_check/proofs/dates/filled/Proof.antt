@@ -5,7 +5,7 @@ use Rattle.cross_check.proofs.dates.filled.Statement.{statement}
 use Rattle.cross_check.proofs.dates.filled.Tie as tie
 
 abbrev Inv-loop : tie.InvT-loop
-Inv-loop end n text₀ rest₀ k₀ text rest k = k ≤ 32
+Inv-loop end n text₀ rest₀ k₀ text rest k = k ≤ 64
 
 abbrev μ-loop : tie.MeasureT-loop
 μ-loop end n text₀ rest₀ k₀ text rest k = k

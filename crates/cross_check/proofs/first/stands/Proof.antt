@@ -5,22 +5,16 @@ use Rattle.cross_check.proofs.first.stands.Statement.{statement}
 use Rattle.cross_check.proofs.first.stands.Tie as tie
 
 abbrev Inv-loop : tie.InvT-loop
-Inv-loop buf fill text at size same₀ k₀ same k = k ≤ 64
+Inv-loop buf fill text size same₀ k₀ same k = k ≤ 64
 
 abbrev μ-loop : tie.MeasureT-loop
-μ-loop buf fill text at size same₀ k₀ same k = 64 - k
+μ-loop buf fill text size same₀ k₀ same k = 64 - k
 
 loop-holds : tie.Need-loop-holds Inv-loop μ-loop
 loop-holds c = search needs
 
-add-p : tie.Need-add-p Inv-loop μ-loop
-add-p c = search needs
-
-returns : tie.Need-returns Inv-loop μ-loop
-returns c = search needs
-
-shared-slice-read-expected : tie.Need-shared-slice-read-expected Inv-loop μ-loop
-shared-slice-read-expected c = search needs
+element-copy-out-expected : tie.Need-element-copy-out-expected Inv-loop μ-loop
+element-copy-out-expected c = search needs
 
 element-copy-out-same : tie.Need-element-copy-out-same Inv-loop μ-loop
 element-copy-out-same c = search needs
@@ -34,8 +28,8 @@ loop-less c = search needs
 loop-again : tie.Need-loop-again Inv-loop μ-loop
 loop-again c = search needs
 
-returns-2 : tie.Need-returns-2 Inv-loop μ-loop
-returns-2 c = search needs
+returns : tie.Need-returns Inv-loop μ-loop
+returns c = search needs
 
 pub stands-spec : {M : Type 1} → statement M
 stands-spec =
@@ -44,11 +38,9 @@ stands-spec =
     Inv-loop
     μ-loop
     loop-holds
-    add-p
-    returns
-    shared-slice-read-expected
+    element-copy-out-expected
     element-copy-out-same
     add-k
     loop-less
     loop-again
-    returns-2)
+    returns)

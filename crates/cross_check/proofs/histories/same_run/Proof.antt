@@ -6,8 +6,8 @@ use borrow.Author.Needs.{needs}
 use Rattle.cross_check.proofs.histories.same_run.Statement.{statement}
 use Rattle.cross_check.proofs.histories.same_run.Tie as tie
 use Rattle.cross_check.proofs.first.same_byte.Reads as same-byte-reads
-use Rattle.cross_check.proofs.first.same_clock.Reads as same-clock-reads
-use Rattle.cross_check.proofs.first.stands.Reads as stands-reads
+use Rattle.cross_check.proofs.histories.same_end.Reads as same-end-reads
+use Rattle.cross_check.proofs.histories.same_part.Reads as same-part-reads
 use Rattle.cross_check.proofs.signed.pick.Reads as pick-reads
 use Rattle.playback.proofs.run.fill.Reads as fill-reads
 use Rattle.playback.proofs.run.start.Reads as start-reads
@@ -39,8 +39,8 @@ fill-requires c κs = search needs
 same-byte-requires : tie.Need-same-byte-requires Inv-loop μ-loop
 same-byte-requires c κs = search needs
 
-stands-requires : tie.Need-stands-requires Inv-loop μ-loop
-stands-requires c κs = search needs
+same-part-requires : tie.Need-same-part-requires Inv-loop μ-loop
+same-part-requires c κs = search needs
 
 add-at : tie.Need-add-at Inv-loop μ-loop
 add-at c = search needs
@@ -54,8 +54,8 @@ loop-less c = search needs
 loop-again : tie.Need-loop-again Inv-loop μ-loop
 loop-again c = search needs
 
-same-clock-requires : tie.Need-same-clock-requires Inv-loop μ-loop
-same-clock-requires c κs = search needs
+same-end-requires : tie.Need-same-end-requires Inv-loop μ-loop
+same-end-requires c κs = search needs
 
 returns : tie.Need-returns Inv-loop μ-loop
 returns c = search needs
@@ -73,10 +73,10 @@ same-run-spec =
     slice-aggregate-fill
     fill-requires
     same-byte-requires
-    stands-requires
+    same-part-requires
     add-at
     sub-left
     loop-less
     loop-again
-    same-clock-requires
+    same-end-requires
     returns)

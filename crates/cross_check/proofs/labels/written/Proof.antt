@@ -47,9 +47,6 @@ pick-requires-3 c κs = search needs
 same-byte-requires : tie.Need-same-byte-requires
 same-byte-requires c κs = search needs
 
-slice-aggregate-stands : tie.Need-slice-aggregate-stands
-slice-aggregate-stands c = search needs
-
 stands-requires : tie.Need-stands-requires
 stands-requires c κs = search needs
 
@@ -71,6 +68,5 @@ written-spec =
     write-requires
     pick-requires-3
     same-byte-requires
-    slice-aggregate-stands
     stands-requires
     returns)

@@ -6,8 +6,8 @@ use borrow.Author.Needs.{needs}
 use Rattle.cross_check.proofs.records.read_both.Statement.{statement}
 use Rattle.cross_check.proofs.records.read_both.Tie as tie
 use Rattle.cross_check.proofs.first.same_byte.Reads as same-byte-reads
-use Rattle.cross_check.proofs.first.same_row.Reads as same-row-reads
 use Rattle.cross_check.proofs.records.read_refusal.Reads as read-refusal-reads
+use Rattle.cross_check.proofs.records.same_record.Reads as same-record-reads
 use Rattle.cross_check.proofs.rules.fresh.Reads as fresh-reads
 use Rattle.cross_check.proofs.rules.row_of.Reads as row-of-reads
 use Rattle.record.proofs.restore.read.Reads as read-reads
@@ -30,11 +30,11 @@ slice-aggregate-read c = simp length-take (omega arith)
 read-requires : tie.Need-read-requires
 read-requires c κs = search needs
 
+same-record-requires : tie.Need-same-record-requires
+same-record-requires c κs = search needs
+
 same-byte-requires : tie.Need-same-byte-requires
 same-byte-requires c κs = search needs
-
-same-row-requires : tie.Need-same-row-requires
-same-row-requires c κs = search needs
 
 returns : tie.Need-returns
 returns c = search needs
@@ -49,6 +49,6 @@ read-both-spec =
     array-share-prefix-bytes
     slice-aggregate-read
     read-requires
+    same-record-requires
     same-byte-requires
-    same-row-requires
     returns)

@@ -5,7 +5,6 @@ use borrow.Author.Needs.{needs}
 use borrow.Author.Needs.{needs}
 use Rattle.cross_check.proofs.records.write.Statement.{statement}
 use Rattle.cross_check.proofs.records.write.Tie as tie
-use Rattle.cross_check.proofs.first.byte.Reads as byte-reads
 use Rattle.cross_check.proofs.first.clock_of.Reads as clock-of-reads
 use Rattle.cross_check.proofs.form.laid.Reads as laid-reads
 use Rattle.cross_check.proofs.numbers.agree.Reads as agree-reads
@@ -25,8 +24,8 @@ row-of-requires c κs = search needs
 draw-requires : tie.Need-draw-requires
 draw-requires c κs = search needs
 
-byte-requires : tie.Need-byte-requires
-byte-requires c κs = search needs
+cast-fill : tie.Need-cast-fill
+cast-fill c = search needs
 
 draw-requires-2 : tie.Need-draw-requires-2
 draw-requires-2 c κs = search needs
@@ -71,7 +70,7 @@ write-spec =
     state-requires
     row-of-requires
     draw-requires
-    byte-requires
+    cast-fill
     draw-requires-2
     add-room
     laid-requires

@@ -1,23 +1,26 @@
--- `cross_check::dates::same_label` ends: every place of a label is looked at.
+-- `cross_check::histories::same_part` ends: every place of the buffer is looked at.
 use Prim.Native.Nat.{_-_, _≤_}
 use borrow.Author.Needs.{needs}
-use Rattle.cross_check.proofs.dates.same_label.Statement.{statement}
-use Rattle.cross_check.proofs.dates.same_label.Tie as tie
+use Rattle.cross_check.proofs.histories.same_part.Statement.{statement}
+use Rattle.cross_check.proofs.histories.same_part.Tie as tie
 
 abbrev Inv-loop : tie.InvT-loop
-Inv-loop text label same₀ k₀ same k = k ≤ 20
+Inv-loop part out at size same₀ k₀ same k = k ≤ 64
 
 abbrev μ-loop : tie.MeasureT-loop
-μ-loop text label same₀ k₀ same k = 20 - k
+μ-loop part out at size same₀ k₀ same k = 64 - k
 
 loop-holds : tie.Need-loop-holds Inv-loop μ-loop
 loop-holds c = search needs
 
+add-expected : tie.Need-add-expected Inv-loop μ-loop
+add-expected c = search needs
+
+element-copy-out-expected : tie.Need-element-copy-out-expected Inv-loop μ-loop
+element-copy-out-expected c = search needs
+
 element-copy-out-same : tie.Need-element-copy-out-same Inv-loop μ-loop
 element-copy-out-same c = search needs
-
-array-read-same : tie.Need-array-read-same Inv-loop μ-loop
-array-read-same c = search needs
 
 add-k : tie.Need-add-k Inv-loop μ-loop
 add-k c = search needs
@@ -31,15 +34,16 @@ loop-again c = search needs
 returns : tie.Need-returns Inv-loop μ-loop
 returns c = search needs
 
-pub same-label-spec : {M : Type 1} → statement M
-same-label-spec =
+pub same-part-spec : {M : Type 1} → statement M
+same-part-spec =
     tie.close
     (tie.spec
     Inv-loop
     μ-loop
     loop-holds
+    add-expected
+    element-copy-out-expected
     element-copy-out-same
-    array-read-same
     add-k
     loop-less
     loop-again
