@@ -1,14 +1,10 @@
 -- `bench::records::clocks` is safe and ends.
 use mathlib.Core.Path.{_≡_}
-use Prim.Native.Nat.{_≤_, _<_, _+_, _-_}
-use native.Mathlib.Omega.{arith}
+use Prim.Native.Nat.{_≤_, _-_}
 use borrow.Author.Needs.{needs}
 use lib.ListN.{length}
 use Rattle.bench.proofs.records.clocks.Statement.{statement}
 use Rattle.bench.proofs.records.clocks.Tie as tie
-use Rattle.bench.proofs.records.later.Reads as later-reads
-use Rattle.clock.proofs.setting.set.Reads as set-reads
-use Rattle.clock.proofs.state.fresh.Reads as fresh-reads
 
 abbrev Inv-loop : tie.InvT-loop
 Inv-loop c₀ all₀ i₀ c all i = (i ≤ 64) × (length all ≡ 64)
@@ -16,49 +12,19 @@ Inv-loop c₀ all₀ i₀ c all i = (i ≤ 64) × (length all ≡ 64)
 abbrev μ-loop : tie.MeasureT-loop
 μ-loop c₀ all₀ i₀ c all i = 64 - i
 
-fresh-requires : tie.Need-fresh-requires Inv-loop μ-loop
-fresh-requires c κs = search needs
-
-set-requires : tie.Need-set-requires Inv-loop μ-loop
-set-requires c κs = search needs
-
-loop-holds : tie.Need-loop-holds Inv-loop μ-loop
-loop-holds c = search needs
-
-later-requires : tie.Need-later-requires Inv-loop μ-loop
-later-requires c κs = search needs
-
-mul-all : tie.Need-mul-all Inv-loop μ-loop
-mul-all c = search needs
-
-array-set-from-all : tie.Need-array-set-from-all Inv-loop μ-loop
-array-set-from-all c = search needs
-
-add-i : tie.Need-add-i Inv-loop μ-loop
-add-i c = search needs
-
-loop-less : tie.Need-loop-less Inv-loop μ-loop
-loop-less c = search needs
-
-loop-again : tie.Need-loop-again Inv-loop μ-loop
-loop-again c = search needs
-
-returns : tie.Need-returns Inv-loop μ-loop
-returns c = search needs
-
 pub clocks-spec : {M : Type 1} → statement M
 clocks-spec =
     tie.close
     (tie.spec
     Inv-loop
     μ-loop
-    fresh-requires
-    set-requires
-    loop-holds
-    later-requires
-    mul-all
-    array-set-from-all
-    add-i
-    loop-less
-    loop-again
-    returns)
+    (λ c κs. tt)
+    (λ c κs. tt)
+    (λ c. search needs)
+    (λ c κs. tt)
+    (λ c. search needs)
+    (λ c. search needs)
+    (λ c. search needs)
+    (λ c. search needs)
+    (λ c. search needs)
+    (λ c. search needs))
