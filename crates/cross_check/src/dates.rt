@@ -124,9 +124,8 @@ fn digits_of(text: &[u8; 64]) -> u64 {
     let mut n: u64 = 0;
     let mut k: usize = 0;
     while k < 20 {
-        if pattern[k] == b'0' {
-            n = n % 100000000000000 * 10 + wide(text[k]) % 16 % 10;
-        }
+        let longer = n % 100000000000000 * 10 + wide(text[k]) % 16 % 10;
+        n = pick(pattern[k] == b'0', longer, n);
         k += 1;
     }
     n
@@ -181,16 +180,10 @@ pub(crate) fn read(text: &[u8; 64], size: usize) -> Label {
     let mut written = (size == 20) & (second < 4294967296);
     written = written & (!sixty | (second % 86400 == 86399));
     let label = label_of(second, sixty);
-    if written & crate::first::stands(text, 0, &label, 64) {
-        return Label {
-            refusal: 0,
-            second: second,
-            sixty: sixty,
-        };
-    }
+    written = written & crate::first::stands(text, 0, &label, 64);
     Label {
-        refusal: 15,
-        second: 0,
-        sixty: false,
+        refusal: pick(written, 0, 15),
+        second: pick(written, second, 0),
+        sixty: written & sixty,
     }
 }

@@ -1,7 +1,9 @@
 // Document 01's number form, a second time: a number's end is found first, then its value is worked out from the last group to the first.
 // Rows of up to thirteen numbers, as records and events have them, are written and read by a mask: bit k says that number k is there.
 use crate::first::wide;
+use crate::signed::minus;
 use crate::signed::pick;
+use crate::signed::plus;
 
 pub(crate) struct Number {
     pub(crate) refusal: u64,
@@ -18,28 +20,23 @@ fn refused(number: u64) -> Number {
 }
 
 // How many bytes from `at` on say that more follows, at most 5; 6 where the bytes end first.
-fn followers(bytes: &[u8; 64], end: usize, at: usize) -> usize {
-    if end <= at {
-        return 6;
-    }
-    let room = end - at;
+fn followers(bytes: &[u8; 64], end: usize, at: usize) -> u64 {
+    let room = minus(end as u64, at as u64);
+    let mut more: u64 = 7;
     let mut k: usize = 0;
     while k < 5 {
-        if room <= k {
-            return 6;
-        }
-        if bytes[(at % 64 + k) % 64] < 128 {
-            return k;
-        }
+        let last = wide(bytes[(at % 64 + k) % 64]) < 128;
+        let ends = pick(last, k as u64, 7);
+        more = pick(more == 7, pick(room <= k as u64, 6, ends), more);
         k += 1;
     }
-    5
+    pick(more == 7, 5, more)
 }
 
 // The value of the bytes from `at` on, of which `more` say that more follows.
-fn value_of(bytes: &[u8; 64], at: usize, more: usize) -> u64 {
+fn value_of(bytes: &[u8; 64], at: usize, more: u64) -> u64 {
     let mut value: u64 = 0;
-    let mut k = more % 8 + 1;
+    let mut k = (more % 8) as usize + 1;
     while 0 < k {
         k -= 1;
         value = value % 1099511627776 * 128 + wide(bytes[(at % 64 + k) % 64]) % 128;
@@ -50,61 +47,67 @@ fn value_of(bytes: &[u8; 64], at: usize, more: usize) -> u64 {
 // The number at `at` of the first `end` bytes.
 pub(crate) fn read(bytes: &[u8; 64], end: usize, at: usize) -> Number {
     let more = followers(bytes, end, at);
-    if more == 6 {
-        return refused(10);
-    }
-    if more == 5 {
-        return refused(11);
-    }
-    if (0 < more) & (bytes[(at % 64 + more % 8) % 64] == 0) {
-        return refused(11);
-    }
-    Number {
-        refusal: 0,
-        value: value_of(bytes, at, more),
-        size: more % 8 + 1,
+    let size = (more % 8) as usize;
+    let zero = wide(bytes[(at % 64 + size) % 64]) == 0;
+    match pick((0 < more) & (more < 5) & zero, 5, more) {
+        6 => refused(10),
+        5 => refused(11),
+        _ => Number {
+            refusal: 0,
+            value: value_of(bytes, at, more),
+            size: size + 1,
+        },
     }
 }
 
-// Where the reading of a row stands: the place after it, or the refusal; and how many of its numbers were passed.
+// Where the reading of rows stands: the place of the next number, how many numbers were passed, and the refusal, after which none is read.
 pub(crate) struct Cursor {
     pub(crate) refusal: u64,
     pub(crate) next: usize,
-    pub(crate) count: usize,
+    pub(crate) count: u64,
 }
 
-// Reads the numbers that the mask names into the row, from `at` of the first `end` bytes on.
+pub(crate) fn cursor_at(at: usize) -> Cursor {
+    Cursor {
+        refusal: 0,
+        next: at,
+        count: 0,
+    }
+}
+
+fn number_if(selected: u64, bytes: &[u8; 64], end: usize, at: usize, old: u64) -> Number {
+    match selected {
+        0 => Number {
+            refusal: 0,
+            value: old,
+            size: 0,
+        },
+        _ => read(bytes, end, at),
+    }
+}
+
+// Reads the numbers that the mask names into the row, from the cursor's place in the first `end` bytes on.
 pub(crate) fn take(
     bytes: &[u8; 64],
     end: usize,
-    at: usize,
+    from: Cursor,
     mask: u64,
     row: &mut [u64; 13],
 ) -> Cursor {
-    let mut next = at;
+    let mut c = from;
     let mut rest = mask;
     let mut k: usize = 0;
     while k < 13 {
-        if rest % 2 == 1 {
-            let n = read(bytes, end, next);
-            if n.refusal != 0 {
-                return Cursor {
-                    refusal: n.refusal,
-                    next: next,
-                    count: k,
-                };
-            }
-            row[k] = n.value;
-            next = next % 65536 + n.size % 8;
-        }
+        let selected = pick(c.refusal == 0, rest % 2, 0);
+        let n = number_if(selected, bytes, end, c.next, row[k]);
+        row[k] = n.value;
+        c.next = c.next % 65536 + n.size % 8;
+        c.refusal = pick(c.refusal == 0, n.refusal, c.refusal);
+        c.count = plus(c.count, pick(c.refusal == 0, 1, 0));
         rest = rest / 2;
         k += 1;
     }
-    Cursor {
-        refusal: 0,
-        next: next,
-        count: 13,
-    }
+    c
 }
 
 // Writes n, below 2^35, from `at` on, as far as the bytes reach, and gives the place after it.
@@ -133,9 +136,10 @@ pub(crate) fn put_all(bytes: &mut [u8; 64], at: usize, row: &[u64; 13], mask: u6
     let mut rest = mask;
     let mut k: usize = 0;
     while k < 13 {
-        if rest % 2 == 1 {
-            next = put(bytes, next, row[k] % 34359738368);
-        }
+        next = match rest % 2 {
+            0 => next,
+            _ => put(bytes, next, row[k] % 34359738368),
+        };
         rest = rest / 2;
         k += 1;
     }

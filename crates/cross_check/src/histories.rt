@@ -37,9 +37,7 @@ fn some_history(case: u64) -> Bytes {
     while k < 16 {
         let row = some_event(case % 1048576 * 16 + k);
         let next = put_all(&mut bytes, end, &row, mask_of(&row));
-        if next <= 64 {
-            end = next;
-        }
+        end = pick(next <= 64, next as u64, end as u64) as usize;
         k += 1;
     }
     crate::random::damaged(

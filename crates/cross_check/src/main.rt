@@ -15,6 +15,7 @@ mod rules;
 mod signed;
 
 use crate::calls::Verdict;
+use crate::signed::pick;
 use crate::signed::plus;
 use libc::STDOUT_FILENO;
 
@@ -128,13 +129,11 @@ fn tell_answers(met: &[u64; 16]) {
 fn noted(group: u64, case: u64, v: Verdict, met: &mut [u64; 16], differ: u64) -> u64 {
     let k = (v.refusal % 16) as usize;
     met[k] = plus(met[k], 1);
-    if v.same {
-        return differ;
+    match pick(v.same | (TOLD <= differ), 0, 1) {
+        0 => (),
+        _ => tell_case(group, case),
     }
-    if differ < TOLD {
-        tell_case(group, case);
-    }
-    plus(differ, 1)
+    plus(differ, pick(v.same, 0, 1))
 }
 
 // The cases 0 to n - 1 of a group, and how many differ.

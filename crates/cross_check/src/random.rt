@@ -63,10 +63,8 @@ fn micros(case: u64) -> u64 {
 fn earlier(case: u64, flag: u64, seconds: u64) -> u64 {
     let v = draw(case, 23);
     let n = v / 16;
-    if flag == 0 {
-        return v % 8 / 7;
-    }
-    match v % 8 {
+    match pick(flag == 0, 8, v % 8) {
+        8 => v % 8 / 7,
         0 => n % 4294967296,
         1 => least(plus(seconds, n % 3), 4294967295),
         2 | 3 => minus(seconds, 1022 + n % 5),
@@ -76,27 +74,21 @@ fn earlier(case: u64, flag: u64, seconds: u64) -> u64 {
 
 // A clock, about three of five sound.
 pub(crate) fn state(case: u64) -> State {
-    let seconds = second(case, 1);
-    let flag = near(case, 21, 1, 255);
-    State {
-        seconds: seconds,
-        micros: micros(case),
-        phase: near(case, 7, 536870910, 4294967295),
-        left: near(case, 10, 4194271232, 4294967295),
-        frequency: near(case, 13, 3355443200, 4294967295),
-        adjustment: near(
-            case,
-            16,
-            pick(draw(case, 19) % 2 == 0, 337639423, 606074880),
-            4294967295,
-        ),
-        constant: near(case, 20, 4, 255),
-        flag: flag,
-        earlier: earlier(case, flag, seconds),
-        maximum: near(case, 24, 16000000, 4294967295),
-        estimated: near(case, 26, 16000000, 4294967295),
-        status: near(case, 28, 4, 255),
-    }
+    let mut s = crate::rules::fresh();
+    s.seconds = second(case, 1);
+    s.micros = micros(case);
+    s.phase = near(case, 7, 536870910, 4294967295);
+    s.left = near(case, 10, 4194271232, 4294967295);
+    s.frequency = near(case, 13, 3355443200, 4294967295);
+    let limit = pick(draw(case, 19) % 2 == 0, 337639423, 606074880);
+    s.adjustment = near(case, 16, limit, 4294967295);
+    s.constant = near(case, 20, 4, 255);
+    s.flag = near(case, 21, 1, 255);
+    s.earlier = earlier(case, s.flag, s.seconds);
+    s.maximum = near(case, 24, 16000000, 4294967295);
+    s.estimated = near(case, 26, 16000000, 4294967295);
+    s.status = near(case, 28, 4, 255);
+    s
 }
 
 // An argument of 64 bits; once in 64 the largest, which is mapped to -2^63.

@@ -52,14 +52,10 @@ fn some_record(case: u64) -> Bytes {
 
 // Every field is judged where it stands; bytes after the end come last.
 fn read_refusal(bytes: &[u8; 64], end: usize, row: &mut [u64; 13]) -> u64 {
-    let c = crate::form::take(bytes, end, 0, WHOLE, row);
-    if !fits(row, c.count) {
-        return 12;
-    }
-    if c.refusal != 0 {
-        return c.refusal;
-    }
-    pick(c.next < end, 13, 0)
+    let c = crate::form::take(bytes, end, crate::form::cursor_at(0), WHOLE, row);
+    let trailing = pick(c.next < end, 13, 0);
+    let last = pick(c.refusal == 0, trailing, c.refusal);
+    pick(fits(row, c.count), last, 12)
 }
 
 // Two clocks are the same where their records are: the clock that was read is written, which the group above compares.

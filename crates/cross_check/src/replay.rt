@@ -3,6 +3,7 @@ use crate::dates::PRINT;
 use crate::dates::clock_stamp;
 use crate::dates::filled;
 use crate::form::Cursor;
+use crate::form::cursor_at;
 use crate::form::take;
 use crate::rules::Answer;
 use crate::rules::State;
@@ -25,23 +26,11 @@ pub(crate) fn mask_of(row: &[u64; 13]) -> u64 {
 
 // The event at `at`, its numbers put into the row.
 fn event_at(bytes: &[u8; 64], end: usize, at: usize, row: &mut [u64; 13]) -> Cursor {
-    let c = take(bytes, end, at, 1, row);
-    if c.refusal != 0 {
-        return c;
-    }
+    let mut c = take(bytes, end, cursor_at(at), 1, row);
     let code = row[0];
-    if 3 < code {
-        return Cursor {
-            refusal: 12,
-            next: at,
-            count: 0,
-        };
-    }
-    let d = take(bytes, end, c.next, pick(code < 3, 2, 0), row);
-    if d.refusal != 0 {
-        return d;
-    }
-    take(bytes, end, d.next, mask_of(row) / 4 * 4, row)
+    c.refusal = pick((c.refusal == 0) & (3 < code), 12, c.refusal);
+    c = take(bytes, end, c, pick(code < 3, 2, 0), row);
+    take(bytes, end, c, mask_of(row) / 4 * 4, row)
 }
 
 // Up to n ticks of a sound clock.
@@ -61,11 +50,12 @@ fn ticks(s: State, n: u64) -> Answer {
     a
 }
 
-fn run_event(s: State, row: &[u64; 13]) -> Answer {
-    if row[0] == 0 {
-        return ticks(s, row[1]);
+fn answer_of(s: State, row: &[u64; 13]) -> Answer {
+    let code = row[0];
+    match code {
+        0 => ticks(s, row[1]),
+        _ => crate::rules::step(s, row),
     }
-    crate::rules::step(s, row)
 }
 
 // A line of the output, without the `skip` bytes from its tenth on; one of size 0 is none.
@@ -160,13 +150,30 @@ pub(crate) fn logged(r: Replayed, refusal: u64, at: usize, out: &mut [u8; 2048])
 
 // The line of an event: a refusal, a print, or none.
 fn put_answer(out: &mut [u8; 2048], at: usize, a: Answer, code: u64) -> usize {
-    if a.refusal != 0 {
-        return put_line(out, at, refused_line(a.refusal));
+    match pick(a.refusal == 0, code, 4) {
+        3 => put_line(out, at, print_line(a.state)),
+        4 => put_line(out, at, refused_line(a.refusal)),
+        _ => at,
     }
-    if code == 3 {
-        return put_line(out, at, print_line(a.state));
-    }
-    at
+}
+
+// A run after an event, the next place after it.
+fn went_on(r: Replayed, place: usize, row: &[u64; 13], out: &mut [u8; 2048]) -> Replayed {
+    let a = answer_of(r.state, row);
+    let mut next = r;
+    next.size = put_answer(out, r.size, a, row[0]);
+    next.refusal = pick(a.refusal == 0, r.refusal, a.refusal);
+    next.place = place;
+    let s = a.state;
+    next.state = s;
+    next
+}
+
+// A history cut at its next event.
+fn cut(r: Replayed) -> Replayed {
+    let mut next = r;
+    next.end = r.place;
+    next
 }
 
 // A run after its next event. One of too many ticks is where the history is cut.
@@ -174,21 +181,12 @@ fn advanced(r: Replayed, bytes: &[u8; 64], out: &mut [u8; 2048]) -> Replayed {
     let mut row = [0u64; 13];
     let at = r.place;
     let c = event_at(bytes, r.end, at, &mut row);
-    if c.refusal != 0 {
-        return logged(r, c.refusal, at, out);
+    let long = (row[0] == 0) & (MOST < row[1]);
+    match pick(c.refusal == 0, pick(long, 2, 0), 1) {
+        0 => went_on(r, c.next, &row, out),
+        1 => logged(r, c.refusal, at, out),
+        _ => cut(r),
     }
-    let mut next = r;
-    if (row[0] == 0) & (MOST < row[1]) {
-        next.end = at;
-        return next;
-    }
-    let a = run_event(r.state, &row);
-    next.size = put_answer(out, r.size, a, row[0]);
-    next.refusal = pick(a.refusal == 0, r.refusal, a.refusal);
-    next.place = c.next;
-    let s = a.state;
-    next.state = s;
-    next
 }
 
 // Runs a history of `end` bytes, of which there are at most 64 events.

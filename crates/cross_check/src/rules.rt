@@ -87,12 +87,12 @@ fn most_of(row: &[u64; 13]) -> [u64; 13] {
 }
 
 // Whether the first `count` numbers of a record are in range, the version known.
-pub(crate) fn fits(row: &[u64; 13], count: usize) -> bool {
+pub(crate) fn fits(row: &[u64; 13], count: u64) -> bool {
     let most = most_of(row);
     let mut ok = (count == 0) | (row[0] == 1);
     let mut k: usize = 0;
     while k < 13 {
-        ok = ok & ((count <= k) | (row[k] <= most[k]));
+        ok = ok & ((count <= k as u64) | (row[k] <= most[k]));
         k += 1;
     }
     ok
@@ -149,63 +149,55 @@ pub(crate) fn tick(s: State) -> Answer {
     let mut t = s;
     t.micros = pick(moved.negative, minus(grown, whole), plus(grown, whole));
     t.phase = mapped(moved.negative, moved.size % 268435456);
-    if t.micros < 1000000 {
-        return Answer {
+    match pick(t.micros < 1000000, 0, pick(s.seconds == 4294967295, 1, 2)) {
+        0 => Answer {
             refusal: 0,
             state: t,
-        };
-    }
-    if s.seconds == 4294967295 {
-        return Answer {
+        },
+        1 => Answer {
             refusal: 3,
             state: s,
-        };
-    }
-    Answer {
-        refusal: 0,
-        state: rolled(t),
+        },
+        _ => Answer {
+            refusal: 0,
+            state: rolled(t),
+        },
     }
 }
 
 fn set(s: State, seconds: u64, micros: u64) -> Answer {
-    if (4294967295 < seconds) | (999999 < micros) {
-        return Answer {
-            refusal: 2,
-            state: s,
-        };
-    }
     let mut t = fresh();
     t.seconds = seconds;
     t.micros = micros;
     t.frequency = s.frequency;
     t.constant = s.constant;
     t.adjustment = adjustment_of(false, 0, s.frequency);
-    Answer {
-        refusal: 0,
-        state: t,
+    match pick((4294967295 < seconds) | (999999 < micros), 2, 0) {
+        0 => Answer {
+            refusal: 0,
+            state: t,
+        },
+        _ => Answer {
+            refusal: 2,
+            state: s,
+        },
     }
 }
 
 // The request's number at `k` where its mode has the bit, else the old one.
 fn chosen(row: &[u64; 13], k: usize, bit: u64, old: u64) -> u64 {
-    if (row[1] & bit) == 0 {
-        old
-    } else {
-        row[k % 13]
-    }
+    pick((row[1] & bit) == 0, old, row[k % 13])
 }
 
 // The lowest of 4 to 9 that applies, or 0. A request is a row: code, mode, then the fields in order of mode bit.
 fn judged(row: &[u64; 13]) -> u64 {
-    if 63 < row[1] {
-        return 4;
-    }
     let mut refusal = pick(4 < chosen(row, 7, 32, 0), 9, 0);
     refusal = pick(4 < chosen(row, 6, 16, 0), 8, refusal);
     refusal = pick(16000000 < chosen(row, 5, 8, 0), 7, refusal);
     refusal = pick(16000000 < chosen(row, 4, 4, 0), 7, refusal);
     refusal = pick(3355443198 < chosen(row, 3, 2, 0), 6, refusal);
-    pick(255998 < chosen(row, 2, 1, 0), 5, refusal)
+    refusal = pick(255998 < chosen(row, 2, 1, 0), 5, refusal);
+    pick(63 < row[1], 4, refusal)
 }
 
 // Frequency, errors, status and time constant.
@@ -249,46 +241,37 @@ fn offset_effects(s: State, n: u64, writes_bad: bool) -> State {
 
 fn adjust(s: State, row: &[u64; 13]) -> Answer {
     let refusal = judged(row);
-    if refusal != 0 {
-        return Answer {
-            refusal: refusal,
-            state: s,
-        };
-    }
     let t = plain_effects(s, row);
-    if row[1] % 2 == 0 {
-        return Answer {
+    match pick(refusal == 0, row[1] % 2, 2) {
+        0 => Answer {
             refusal: 0,
             state: t,
-        };
-    }
-    Answer {
-        refusal: 0,
-        state: offset_effects(t, row[2], chosen(row, 6, 16, 0) == 4),
+        },
+        1 => Answer {
+            refusal: 0,
+            state: offset_effects(t, row[2], chosen(row, 6, 16, 0) == 4),
+        },
+        _ => Answer {
+            refusal: refusal,
+            state: s,
+        },
     }
 }
 
 // An event on a clock: code 0 one tick, 1 a setting, 2 a request, 3 a reading.
 pub(crate) fn step(s: State, row: &[u64; 13]) -> Answer {
-    if !sound(s) {
-        return Answer {
+    match pick(sound(s), row[0], 4) {
+        0 => tick(s),
+        1 => set(s, row[1], row[2]),
+        2 => adjust(s, row),
+        3 => Answer {
+            refusal: 0,
+            state: s,
+        },
+        _ => Answer {
             refusal: 1,
             state: s,
-        };
-    }
-    let code = row[0];
-    if code == 0 {
-        return tick(s);
-    }
-    if code == 1 {
-        return set(s, row[1], row[2]);
-    }
-    if code == 2 {
-        return adjust(s, row);
-    }
-    Answer {
-        refusal: 0,
-        state: s,
+        },
     }
 }
 

@@ -25,15 +25,11 @@ pub(crate) fn pick(first: bool, a: u64, b: u64) -> u64 {
 }
 
 pub(crate) fn sum(a: Signed, b: Signed) -> Signed {
-    if a.negative == b.negative {
-        return Signed {
-            negative: a.negative,
-            size: plus(a.size, b.size),
-        };
-    }
+    let apart = plus(minus(a.size, b.size), minus(b.size, a.size));
+    let first = a.negative & (b.negative | (b.size < a.size));
     Signed {
-        negative: (a.negative & (b.size < a.size)) | (b.negative & (a.size < b.size)),
-        size: plus(minus(a.size, b.size), minus(b.size, a.size)),
+        negative: first | (b.negative & (a.size < b.size)),
+        size: pick(a.negative == b.negative, plus(a.size, b.size), apart),
     }
 }
 
@@ -50,8 +46,7 @@ pub(crate) fn halved(a: u64, n: u64) -> u64 {
 
 // v >= 0 to 2v, v < 0 to -2v - 1.
 pub(crate) fn mapped(negative: bool, size: u64) -> u64 {
-    let double = plus(size, size);
-    if negative { minus(double, 1) } else { double }
+    minus(plus(size, size), pick(negative, 1, 0))
 }
 
 pub(crate) fn unmapped(n: u64) -> Signed {

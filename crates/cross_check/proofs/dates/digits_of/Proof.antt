@@ -4,6 +4,7 @@ use borrow.Author.Needs.{needs}
 use Rattle.cross_check.proofs.dates.digits_of.Statement.{statement}
 use Rattle.cross_check.proofs.dates.digits_of.Tie as tie
 use Rattle.cross_check.proofs.first.wide.Reads as wide-reads
+use Rattle.cross_check.proofs.signed.pick.Reads as pick-reads
 
 abbrev Inv-loop : tie.InvT-loop
 Inv-loop text pattern n₀ k₀ n k = k ≤ 20
@@ -14,11 +15,8 @@ abbrev μ-loop : tie.MeasureT-loop
 loop-holds : tie.Need-loop-holds Inv-loop μ-loop
 loop-holds c = search needs
 
-array-read-if1 : tie.Need-array-read-if1 Inv-loop μ-loop
-array-read-if1 c = search needs
-
-mul-n : tie.Need-mul-n Inv-loop μ-loop
-mul-n c = search needs
+mul-longer : tie.Need-mul-longer Inv-loop μ-loop
+mul-longer c = search needs
 
 element-copy-out-wide : tie.Need-element-copy-out-wide Inv-loop μ-loop
 element-copy-out-wide c = search needs
@@ -26,8 +24,14 @@ element-copy-out-wide c = search needs
 wide-requires : tie.Need-wide-requires Inv-loop μ-loop
 wide-requires c κs = search needs
 
-add-n : tie.Need-add-n Inv-loop μ-loop
-add-n c = search needs
+add-longer : tie.Need-add-longer Inv-loop μ-loop
+add-longer c = search needs
+
+array-read-pick : tie.Need-array-read-pick Inv-loop μ-loop
+array-read-pick c = search needs
+
+pick-requires : tie.Need-pick-requires Inv-loop μ-loop
+pick-requires c κs = search needs
 
 add-k : tie.Need-add-k Inv-loop μ-loop
 add-k c = search needs
@@ -48,11 +52,12 @@ digits-of-spec =
     Inv-loop
     μ-loop
     loop-holds
-    array-read-if1
-    mul-n
+    mul-longer
     element-copy-out-wide
     wide-requires
-    add-n
+    add-longer
+    array-read-pick
+    pick-requires
     add-k
     loop-less
     loop-again

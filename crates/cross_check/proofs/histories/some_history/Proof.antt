@@ -8,6 +8,7 @@ use Rattle.cross_check.proofs.histories.some_event.Reads as some-event-
 use Rattle.cross_check.proofs.random.damaged.Reads as damaged-reads
 use Rattle.cross_check.proofs.random.some_bytes.Reads as some-bytes-reads
 use Rattle.cross_check.proofs.replay.mask_of.Reads as mask-of-reads
+use Rattle.cross_check.proofs.signed.pick.Reads as pick-reads
 
 abbrev Inv-loop : tie.InvT-loop
 Inv-loop case bytes₀ end₀ k₀ bytes end k = k ≤ 16
@@ -35,6 +36,9 @@ mask-of-requires c κs = search needs
 
 put-all-requires : tie.Need-put-all-requires Inv-loop μ-loop
 put-all-requires c κs = search needs
+
+pick-requires : tie.Need-pick-requires Inv-loop μ-loop
+pick-requires c κs = search needs
 
 add-k : tie.Need-add-k Inv-loop μ-loop
 add-k c = search needs
@@ -64,6 +68,7 @@ some-history-spec =
     some-event-requires
     mask-of-requires
     put-all-requires
+    pick-requires
     add-k
     loop-less
     loop-again
