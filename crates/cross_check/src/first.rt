@@ -48,6 +48,7 @@ pub(crate) fn to_i64(n: u64) -> i64 {
     }
 }
 
+// The clock of a state; every field that is drawn or worked out fits.
 pub(crate) fn clock_of(s: State) -> Clock {
     Clock {
         seconds: word(s.seconds),

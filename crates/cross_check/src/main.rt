@@ -1,5 +1,5 @@
-// Runs a second implementation of document 01 beside the first, over pseudo-random and edge calls, and compares every answer to the last bit.
-// One line for each group says how many calls were compared, how many differ, and how often the second implementation gave each answer:
+// Runs a second implementation of document 01 beside the first, over pseudo-random and edge cases, and compares every answer to the last bit.
+// One line for each group says how many cases were compared, how many differ, and how often the second implementation gave each answer:
 // 0 for accepted, else the number of the refusal.
 mod calls;
 mod dates;
@@ -150,7 +150,15 @@ fn run(group: u64, n: u64) -> u64 {
     differ
 }
 
+fn tell_head() {
+    io::write_all(
+        STDOUT_FILENO,
+        b"cases compared, cases that differ, and how often each answer was given (0: accepted, else the refusal):\n",
+    );
+}
+
 fn main() {
+    tell_head();
     let cases = CASES;
     let mut compared: u64 = 0;
     let mut differ: u64 = 0;

@@ -89,7 +89,7 @@ fn mask_of(count: usize) -> u64 {
     masks[count % 14]
 }
 
-// Up to thirteen numbers, one after the other: three, repeated. One is written by the writer of a single one.
+// Up to thirteen numbers, one after the other: two, repeated. A list of one is written by the writer of a single number.
 pub(crate) fn write(case: u64) -> Verdict {
     let a = some_number(case, 350);
     let b = some_number(case, 351);

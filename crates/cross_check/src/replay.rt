@@ -1,4 +1,4 @@
-// Document 01's replay, a second time.
+// Document 01's replay, a second time: an event is a row of numbers, read by masks, and its line a pattern filled from the last digit on.
 use crate::dates::PRINT;
 use crate::dates::clock_stamp;
 use crate::dates::filled;
@@ -58,11 +58,11 @@ fn answer_of(s: State, row: &[u64; 13]) -> Answer {
     }
 }
 
-// A line of the output, without the `skip` bytes from its tenth on; one of size 0 is none.
-pub(crate) struct Line {
-    pub(crate) text: [u8; 64],
-    pub(crate) size: usize,
-    pub(crate) skip: usize,
+// A line of the output: the first `size` bytes of the text, without the `skip` bytes from place 10 on.
+struct Line {
+    text: [u8; 64],
+    size: usize,
+    skip: usize,
 }
 
 fn refused_line(refusal: u64) -> Line {
@@ -101,7 +101,7 @@ fn log_line(refusal: u64, place: u64) -> Line {
 }
 
 // Puts a line behind the `at` bytes of the output, and gives the place after it.
-pub(crate) fn put_line(out: &mut [u8; 2048], at: usize, line: Line) -> usize {
+fn put_line(out: &mut [u8; 2048], at: usize, line: Line) -> usize {
     let text = line.text;
     let mut next = at % 2048;
     let mut k: usize = 0;
@@ -157,7 +157,7 @@ fn put_answer(out: &mut [u8; 2048], at: usize, a: Answer, code: u64) -> usize {
     }
 }
 
-// A run after an event, the next place after it.
+// A run after an event, the next one at `place`.
 fn went_on(r: Replayed, place: usize, row: &[u64; 13], out: &mut [u8; 2048]) -> Replayed {
     let a = answer_of(r.state, row);
     let mut next = r;
@@ -189,7 +189,7 @@ fn advanced(r: Replayed, bytes: &[u8; 64], out: &mut [u8; 2048]) -> Replayed {
     }
 }
 
-// Runs a history of `end` bytes, of which there are at most 64 events.
+// Runs a history of `end` bytes: at most 64 events, and one turn more to see the end.
 pub(crate) fn replay(bytes: &[u8; 64], end: usize, out: &mut [u8; 2048]) -> Replayed {
     let mut r = begun(end);
     let mut left: u64 = 65;

@@ -3,16 +3,15 @@ use Prim.Native.Nat.{_-_, _≤_}
 use borrow.Author.Needs.{needs}
 use Rattle.cross_check.proofs.main.Statement.{statement}
 use Rattle.cross_check.proofs.main.Tie as tie
-use Rattle.cross_check.proofs.end_line.Reads as end-line-reads
-use Rattle.cross_check.proofs.run.Reads as run-reads
-use Rattle.cross_check.proofs.signed.plus.Reads as plus-reads
-use Rattle.cross_check.proofs.tell_counts.Reads as tell-counts-reads
 
 abbrev Inv-loop : tie.InvT-loop
 Inv-loop cases compared₀ differ₀ k₀ compared differ k = k ≤ 15
 
 abbrev μ-loop : tie.MeasureT-loop
 μ-loop cases compared₀ differ₀ k₀ compared differ k = 15 - k
+
+tell-head-requires : tie.Need-tell-head-requires Inv-loop μ-loop
+tell-head-requires c κs = search needs
 
 loop-holds : tie.Need-loop-holds Inv-loop μ-loop
 loop-holds c = search needs
@@ -62,6 +61,7 @@ main-spec =
     (tie.spec
     Inv-loop
     μ-loop
+    tell-head-requires
     loop-holds
     mul-plus
     array-read-plus
