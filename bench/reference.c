@@ -1,7 +1,7 @@
 /*
  * The operations of document 01 in plain C, for bench/run to hold the proved ones against: the same lines of input as crates/bench
- * ("tick 1000000"), the same checksums. The state is changed in place, as a C programmer would have it; every call judges its state and
- * arguments as document 01 asks.
+ * ("tick 1000000"), the same checksums; with the argument `replay`, a history on standard input and the same lines as the program replay.
+ * The state is changed in place, as a C programmer would have it; every call judges its state and arguments as document 01 asks.
  *
  * strftime N, strptime N: the label operations by the C library, which judges less; their checksums stand alone.
  */
