@@ -5,8 +5,6 @@ use Rattle.clock.specs.State.{greatestOffset}
 use Rattle.clock.specs.Rollover.{shareDivisor, leapSeconds, leapStatus}
 use Rattle.clock.specs.Tick.{microsGrown, phaseLeft}
 use Rattle.clock.specs.declared.state.Clock.{Clock}
-use Rattle.clock.specs.declared.units.Micros.{Micros}
-use Rattle.clock.specs.declared.units.PhaseUnits.{PhaseUnits}
 use Rattle.clock.specs.declared.rollover.Leap.{Leap}
 use Rattle.clock.specs.declared.tick.Advance.{Advance}
 
@@ -19,21 +17,3 @@ leapOf status s = record { seconds = leapSeconds status s; status = leapStatus s
 
 abbrev pub advanceOf : Clock → Advance
 advanceOf c = record { micros = micros (microsGrown c); phase = phaseUnits (phaseLeft c) }
-
--- the clock with other microseconds and another phase: all that a tick moves within a second
-abbrev pub moved : Clock → Micros → PhaseUnits → Clock
-moved c us phase =
-    record {
-      seconds = c .seconds;
-      micros = us;
-      phase = phase;
-      offset = c .offset;
-      frequency = c .frequency;
-      adjustment = c .adjustment;
-      constant = c .constant;
-      updated = c .updated;
-      reftime = c .reftime;
-      maxerror = c .maxerror;
-      esterror = c .esterror;
-      status = c .status;
-    }

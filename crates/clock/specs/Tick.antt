@@ -9,6 +9,8 @@ use Rattle.clock.specs.Device.{device}
 use Rattle.clock.specs.State.{inRange, lastSecond}
 use Rattle.clock.specs.Refusal.{refuse, answer}
 use Rattle.clock.specs.Rollover.{rolledOver}
+use Rattle.clock.specs.declared.units.Micros.{Micros}
+use Rattle.clock.specs.declared.units.PhaseUnits.{PhaseUnits}
 use Rattle.clock.specs.declared.state.Clock.{Clock}
 use Rattle.clock.specs.declared.outcome.Outcome.{Outcome}
 
@@ -32,13 +34,13 @@ microsGrown c = natAbs (pos (c .micros .0 + device .tick .0) +ℤ carry c)
 abbrev pub rollsOver : Clock → Bool
 rollsOver c = leb microsPerSecond (microsGrown c)
 
--- the clock with the new phase and with us for its microseconds
-abbrev pub advanced : Clock → ℕ → Clock
-advanced c us =
+-- the clock with other microseconds and another phase: all that a tick moves before a rollover
+abbrev pub moved : Clock → Micros → PhaseUnits → Clock
+moved c us phase =
     record {
       seconds = c .seconds;
-      micros = micros us;
-      phase = phaseUnits (phaseLeft c);
+      micros = us;
+      phase = phase;
       offset = c .offset;
       frequency = c .frequency;
       adjustment = c .adjustment;
@@ -49,6 +51,10 @@ advanced c us =
       esterror = c .esterror;
       status = c .status;
     }
+
+-- the clock with the new phase and with us for its microseconds
+abbrev pub advanced : Clock → ℕ → Clock
+advanced c us = moved c (micros us) (phaseUnits (phaseLeft c))
 
 -- "that much is taken off and a rollover follows": it is taken off where there is that much
 unfoldable pub ticked : Clock → Clock

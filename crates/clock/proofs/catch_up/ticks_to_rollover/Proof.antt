@@ -5,9 +5,8 @@ use borrow.Author.Tests.{not-true, not-false, le-leb, lt-leb}
 use mathlib.Core.Bool.{true, false}
 use mathlib.Core.Path.{_≡_, refl, sym, _∙_, ap}
 use Rattle.clock.specs.State.{inRange}
-use Rattle.clock.specs.Tick.{rollsOver}
+use Rattle.clock.specs.Tick.{moved, rollsOver}
 use Rattle.clock.specs.CatchUp.{caughtUp, ticksToRollover}
-use Rattle.clock.specs.Inner.{moved}
 use Rattle.clock.specs.declared.state.Clock.{Clock}
 use Rattle.clock.specs.declared.outcome.Outcome.{Outcome}
 use Rattle.clock.proofs.CatchUpLaws.{none-out, none-left, stays-in-range, one-stays, one-rolls}
