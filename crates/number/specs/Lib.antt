@@ -1,5 +1,5 @@
 pub mod Form
 pub mod Reading
-pub mod Later
+pub mod Inner
 pub mod Writing
 pub mod Mapping

@@ -1,4 +1,4 @@
--- What the reader's private routine for long numbers gives. No public promise names these definitions.
+-- What the private functions answer. No public promise names these definitions.
 use mathlib.Core.Bool.{cond}
 use mathlib.Core.List.{List}
 use Prim.Native.Nat.{ℕ, suc, _+_, _*_}
