@@ -10,6 +10,7 @@ pub mod ReadWritten
 pub mod WrittenRead
 pub mod Chain
 pub mod Sequence
+pub mod Layouts
 pub mod Buffer
 pub mod Mapping
 pub mod Examples

@@ -4,3 +4,4 @@ pub mod Sequence
 pub mod Inner
 pub mod Writing
 pub mod Mapping
+pub mod Layout

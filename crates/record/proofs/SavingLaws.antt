@@ -15,7 +15,6 @@ use Rattle.clock.specs.declared.state.Clock.{Clock}
 use Rattle.number.specs.declared.encode.Written.{Written}
 use Rattle.record.specs.Layout.{numbersOf, recordOf}
 use Rattle.record.specs.Saving.{savingRefusal, savingOf, bufferAfter}
-use Rattle.record.specs.declared.save.Saved.{Saved}
 
 -- ---- the record before it is copied
 

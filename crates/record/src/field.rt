@@ -1,7 +1,7 @@
 // One field of a record: a number at a place, and its range.
 ghost use mathlib.Core.Path.{_≡_};
+ghost use Rattle.number.specs.Layout.{fieldAt};
 ghost use Rattle.number.specs.Mapping.{unmapped};
-ghost use Rattle.record.specs.Field.{fieldAt};
 ghost use Rattle.record.specs.Inner.{toldField, upTo, fromTo};
 ghost use Rattle.record.specs.Layout.{knownVersion};
 use crate::layout::VERSION;
