@@ -5,7 +5,7 @@ ghost use lib.Dec.{leb};
 ghost use lib.ListN.{length};
 ghost use lib.Seq.{sets};
 ghost use Rattle.number.specs.Form.{bytesOf, bytesOfAll};
-ghost use Rattle.number.specs.Writing.{answered, filled};
+ghost use Rattle.number.specs.Writing.{Writes};
 
 // The answer of a writer: refusal 0 and the place after what was written, or refusal 14 and 0.
 pub struct Written {
@@ -55,7 +55,7 @@ fn place(buf: &mut [u8], at: usize, n: u32) -> usize
 
 // Writes n from `at` on. Every other byte stays; with too little room, every byte.
 pub fn write(buf: &mut [u8], at: usize, n: u32) -> Written
-    ensures { λ r. ⌜ (r ≡ answered (now (buf .entry)) at (bytesOf n)) × (now (buf .exit) ≡ filled (now (buf .entry)) at (bytesOf n)) ⌝ }
+    ensures { λ r. ⌜ Writes (now (buf .entry)) (now (buf .exit)) at (bytesOf n) r ⌝ }
 {
     let k = size(n);
     let len = buf.len();
@@ -108,7 +108,7 @@ fn place_all(buf: &mut [u8], at: usize, ns: &[u32]) -> usize
 
 // Writes all the numbers, one after the other, from `at` on. Every other byte stays; with too little room for all of them, every byte.
 pub fn write_all(buf: &mut [u8], at: usize, ns: &[u32]) -> Written
-    ensures { λ r. ⌜ (r ≡ answered (now (buf .entry)) at (bytesOfAll (now (ns .entry)))) × (now (buf .exit) ≡ filled (now (buf .entry)) at (bytesOfAll (now (ns .entry)))) ⌝ }
+    ensures { λ r. ⌜ Writes (now (buf .entry)) (now (buf .exit)) at (bytesOfAll (now (ns .entry))) r ⌝ }
 {
     let len = buf.len();
     if len < at {

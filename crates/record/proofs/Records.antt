@@ -183,12 +183,12 @@ pub saved-is-kept : SavedIsKept
 saved-is-kept c buf e =
     ⊎-elim
     (λ t.
-    ⊎-elim (λ l. refuses {r = 14} (omega arith) (too-short c buf t (ltb-true _ _ l) .0) e)
+    ⊎-elim (λ l. refuses {r = 14} (omega arith) (too-short c buf t (ltb-true _ _ l) .answer) e)
     (λ l.
-    let w = stored c buf t (ltb-false _ _ l) in
-    let n : savingOf c buf .length ≡ length (recordOf c) = sym (ap (λ (y : Saved). y .length) (w .0)) in
-    let b : bufferAfter c buf ≡ recordOf c ++ drop (length (recordOf c)) buf = sym (w .1) in
+    let w = stored c buf t (ltb-false _ _ l) refl refl in
+    let n : savingOf c buf .length ≡ length (recordOf c) = sym (ap (λ (y : Saved). y .length) (w .answer)) in
+    let b : bufferAfter c buf ≡ recordOf c ++ drop (length (recordOf c)) buf = sym (w .buffer) in
     record { read = rw (n, b, take-append-seam) (reads-back c t); later = rw (n, b, drop-append-seam) })
     (either (ltb (length buf) (length (recordOf c)))))
-    (λ t. refuses {r = 1} (omega arith) (out-of-range c buf t .0) e)
+    (λ t. refuses {r = 1} (omega arith) (out-of-range c buf t .answer) e)
     (either (inRange c))

@@ -1,6 +1,6 @@
 // Writing a clock's record.
 ghost use mathlib.Core.Path.{_≡_};
-ghost use Rattle.record.specs.Saving.{savingOf, bufferAfter};
+ghost use Rattle.record.specs.Saving.{Saves};
 use crate::layout::numbers;
 use clock::state::Clock;
 use clock::state::in_range;
@@ -13,7 +13,7 @@ pub struct Saved {
 
 // Writes the record of c into the buffer's first bytes; the later ones stay. A refused write leaves all of them.
 pub fn write(c: Clock, buf: &mut [u8]) -> Saved
-    ensures { λ r. ⌜ (r ≡ savingOf c (now (buf .entry))) × (now (buf .exit) ≡ bufferAfter c (now (buf .entry))) ⌝ }
+    ensures { λ r. ⌜ Saves c (now (buf .entry)) (now (buf .exit)) r ⌝ }
 {
     if !in_range(c) {
         return Saved {
