@@ -4,5 +4,10 @@
 mod field;
 mod groups;
 mod layout;
-pub mod restore;
-pub mod save;
+mod restore;
+mod save;
+
+pub use restore::Restored;
+pub use restore::read;
+pub use save::Saved;
+pub use save::write;

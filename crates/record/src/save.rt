@@ -24,7 +24,7 @@ pub fn write(c: Clock, buf: &mut [u8]) -> Saved
     let ns = numbers(c);
     // Thirteen numbers have 65 bytes at most: there is room for them here, and they are written before they are counted.
     let mut text = [0u8; 65];
-    let w = number::encode::write_all(&mut text, 0, &ns);
+    let w = number::write_all(&mut text, 0, &ns);
     let n = w.next;
     if buf.len() < n {
         return Saved {
