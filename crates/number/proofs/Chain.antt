@@ -2,9 +2,9 @@
 -- sum of lengths: `ahead-first` and `ahead-rest` read what was written, `_◂_` and `ahead-none` put together what was read.
 use mathlib.Core.Path.{_≡_, sym, _∙_, ap}
 use mathlib.Core.List.{List, [], _∷_, _++_, append-assoc}
-use Prim.Native.Nat.{ℕ, _+_, _-_, _^_, _<_, _≤_}
+use Prim.Native.Nat.{ℕ, _+_, _-_, _<_, _≤_}
 use lib.ListN.{length, drop, drop-of-length-le, length-drop}
-use Rattle.number.specs.Form.{bytesOf, bytesOfAll}
+use Rattle.number.specs.Form.{limit, bytesOf, bytesOfAll}
 use Rattle.number.specs.Reading.{number, numberAt}
 use Rattle.number.proofs.ReadWritten.{read-written, behind-written}
 use Rattle.number.proofs.WrittenRead.{Holds}
@@ -20,7 +20,7 @@ module _ {s : List ℕ} {at n : ℕ} {ns after : List ℕ} (a : Ahead s at (n �
   unfolding bytesOfAll
   apart = a .is ∙ append-assoc (bytesOf n) (bytesOfAll ns) after
 
-  pub ahead-first : n < 2 ^ 35 → numberAt s at ≡ number n (at + length (bytesOf n))
+  pub ahead-first : n < limit → numberAt s at ≡ number n (at + length (bytesOf n))
   ahead-first b = read-written s (bytesOfAll ns ++ after) n at b apart
 
   pub ahead-rest : Ahead s (at + length (bytesOf n)) ns after

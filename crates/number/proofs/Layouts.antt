@@ -12,7 +12,7 @@ use lib.Dec.{ltb}
 use lib.ListN.{length, getD}
 use borrow.Author.Tests.{ltb-false, lt-ltb, le-ltb}
 use Rattle.integers.proofs.Ranges.{and-true, true-and}
-use Rattle.number.specs.Form.{bytesOfAll}
+use Rattle.number.specs.Form.{limit, bytesOfAll}
 use Rattle.number.specs.Reading.{Found, number, refused, numberAt}
 use Rattle.number.specs.Sequence.{then}
 use Rattle.number.specs.Inner.{refusedAs}
@@ -28,7 +28,7 @@ use Rattle.number.proofs.Sizes.{sizes-below, sizes-none}
 
 -- a number for each field
 unfoldable pub Choice : {A : Type 0} → Layout A → Type 0
-Choice (field range rest) = record { n : ℕ; small : n < 2 ^ 35; fits : range n ≡ true; more : Choice (rest n) }
+Choice (field range rest) = record { n : ℕ; small : n < limit; fits : range n ≡ true; more : Choice (rest n) }
 Choice (whole saved) = record {}
 
 -- the numbers, and what they stand for

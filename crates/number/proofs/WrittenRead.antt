@@ -10,7 +10,7 @@ use lib.Dec.{ltb, leb, eqb}
 use lib.ListN.{length, getD, take, drop}
 use lib.Seq.{take-append-seam}
 use borrow.Author.Tests.{ltb-true, ltb-false, leb-true, leb-false, eqb-true, eqb-false}
-use Rattle.number.specs.Form.{bytesFrom, bytesOf}
+use Rattle.number.specs.Form.{limit, bytesFrom, bytesOf}
 use Rattle.number.specs.Reading.{Found, number, refused, numberAt}
 use Rattle.number.specs.Inner.{laterAt}
 use Rattle.number.proofs.Lists.{either, opened}
@@ -19,7 +19,7 @@ use Rattle.number.proofs.Steps.{before, never, first-none, first-last, 
 
 -- the bytes from place at on are those of v, and then those from next on
 pub record Holds (s : List ℕ) (at v next : ℕ) : Type 0 where
-  pub small : v < 2 ^ 35
+  pub small : v < limit
   pub bytes : drop at s ≡ bytesOf v ++ drop next s
   pub within : next ≤ length s
 

@@ -3,6 +3,7 @@
 // Every public function is total: any bytes, any place and any buffer may be handed in.
 mod decode;
 mod encode;
+mod form;
 mod zigzag;
 
 pub use decode::Decoded;
