@@ -13,7 +13,7 @@ use Rattle.number.proofs.Lists.{either}
 use Rattle.clock.specs.State.{phaseRange, offsetRange, frequencyRange, adjustmentRange}
 use Rattle.number.specs.Layout.{judgedBy, fieldAt, mappedRange}
 use Rattle.record.specs.Layout.{reftimeRange}
-use Rattle.record.specs.Inner.{toldField, upTo, fromTo, lastReftime}
+use Rattle.record.specs.Inner.{toldField, upTo, fromTo, mappedPhase, mappedOffset, mappedFrequency, mappedAdjustment, lastReftime}
 use Rattle.record.proofs.Ranges.{phase-test, offset-test, frequency-test, adjustment-test, reftime-bounds}
 use Rattle.record.specs.declared.field.Field.{Field}
 use Rattle.record.specs.declared.field.Field.the-variants as F
@@ -46,16 +46,16 @@ field-same : (p q : ℕ → Bool) (s : List ℕ) (at : ℕ) → ((n : ℕ) → p
 unfolding fieldAt
 field-same p q s at h = judged-same p q h (numberAt s at)
 
-pub phase-field : (s : List ℕ) (at : ℕ) → fieldAt (upTo 536870910) s at ≡ fieldAt (mappedRange phaseRange) s at
+pub phase-field : (s : List ℕ) (at : ℕ) → fieldAt (upTo mappedPhase) s at ≡ fieldAt (mappedRange phaseRange) s at
 phase-field s at = field-same _ _ s at phase-test
 
-pub offset-field : (s : List ℕ) (at : ℕ) → fieldAt (upTo 4194271232) s at ≡ fieldAt (mappedRange offsetRange) s at
+pub offset-field : (s : List ℕ) (at : ℕ) → fieldAt (upTo mappedOffset) s at ≡ fieldAt (mappedRange offsetRange) s at
 offset-field s at = field-same _ _ s at offset-test
 
-pub frequency-field : (s : List ℕ) (at : ℕ) → fieldAt (upTo 3355443200) s at ≡ fieldAt (mappedRange frequencyRange) s at
+pub frequency-field : (s : List ℕ) (at : ℕ) → fieldAt (upTo mappedFrequency) s at ≡ fieldAt (mappedRange frequencyRange) s at
 frequency-field s at = field-same _ _ s at frequency-test
 
-pub adjustment-field : (s : List ℕ) (at : ℕ) → fieldAt (fromTo (negsuc 168819711) 606074880) s at ≡ fieldAt (mappedRange adjustmentRange) s at
+pub adjustment-field : (s : List ℕ) (at : ℕ) → fieldAt (fromTo (negsuc 168819711) mappedAdjustment) s at ≡ fieldAt (mappedRange adjustmentRange) s at
 adjustment-field s at = field-same _ _ s at adjustment-test
 
 -- the second of the earlier update, tested by the largest one that the flag allows

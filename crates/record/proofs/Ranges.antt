@@ -14,7 +14,7 @@ use Rattle.number.proofs.Lists.{either}
 use Rattle.number.specs.Layout.{mappedRange}
 use Rattle.clock.specs.State.{lastSecond, phaseRange, offsetRange, frequencyRange, adjustmentRange}
 use Rattle.record.specs.Layout.{reftimeRange}
-use Rattle.record.specs.Inner.{upTo, fromTo, betweenZ, lastReftime}
+use Rattle.record.specs.Inner.{upTo, fromTo, betweenZ, mappedPhase, mappedOffset, mappedFrequency, mappedAdjustment, lastReftime}
 
 -- above -2^28 and below 2^28
 phase-bounds : (z : ℤ) → betweenZ (negsuc 268435454) (pos 268435455) z ≡ phaseRange z
@@ -67,16 +67,16 @@ lopsided k m n l =
     by-least true e = ap (λ (x : Bool). x && true) (le-leb n (2 * m) (omega (arith, leb-true (n / 2) k e)))
     by-least false e = dropped (leb n (2 * m))
 
-pub phase-test : (n : ℕ) → upTo 536870910 n ≡ mappedRange phaseRange n
+pub phase-test : (n : ℕ) → upTo mappedPhase n ≡ mappedRange phaseRange n
 phase-test n = balanced 268435454 n ∙ phase-bounds (unmapped n)
 
-pub offset-test : (n : ℕ) → upTo 4194271232 n ≡ mappedRange offsetRange n
+pub offset-test : (n : ℕ) → upTo mappedOffset n ≡ mappedRange offsetRange n
 offset-test = balanced 2097135615
 
-pub frequency-test : (n : ℕ) → upTo 3355443200 n ≡ mappedRange frequencyRange n
+pub frequency-test : (n : ℕ) → upTo mappedFrequency n ≡ mappedRange frequencyRange n
 frequency-test = balanced 1677721599
 
-pub adjustment-test : (n : ℕ) → fromTo (negsuc 168819711) 606074880 n ≡ mappedRange adjustmentRange n
+pub adjustment-test : (n : ℕ) → fromTo (negsuc 168819711) mappedAdjustment n ≡ mappedRange adjustmentRange n
 adjustment-test n = lopsided 168819711 303037440 n (lit< tt)
 
 -- the second of the earlier update, by the flag

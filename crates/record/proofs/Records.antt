@@ -4,7 +4,7 @@ use mathlib.Core.Path.{_≡_, refl, sym, _∙_, ap}
 use mathlib.Core.Bool.{Bool, true, _&&_, and-assoc}
 use mathlib.Core.List.{List, _++_, append-nil}
 use mathlib.Core.Logic.{_⊎_, inl, inr, ⊎-elim}
-use Prim.Native.Nat.{ℕ, suc, _^_, _<_, _≤_}
+use Prim.Native.Nat.{ℕ, suc, _*_, _-_, _^_, _<_, _≤_}
 use native.Mathlib.Omega.{arith}
 use lib.Dec.{leb, ltb, lit<}
 use lib.IntN.{pos}
@@ -19,12 +19,13 @@ use Rattle.number.proofs.Lists.{either}
 use Rattle.number.proofs.Chain.{Ahead}
 use Rattle.number.proofs.Layouts.{Choice, chosen, stands, allows, joined, allows-joined, AtMost, longer, nothing, choose, choose-chosen, chosen-allowed, no-longer, read-back, read-more, taken, Known, known}
 use Rattle.number.proofs.Mapping.{unmapped-mapped, mapped-unmapped}
-use Rattle.clock.specs.Units.{micros, offsetUnits, phaseUnits, frequencyUnits}
-use Rattle.clock.specs.State.{inRange, freshClock}
+use Rattle.clock.specs.Units.{micros, offsetUnits, phaseUnits, frequencyUnits, offsetUnitsPerMicro, phaseUnitsPerMicro}
+use Rattle.clock.specs.State.{inRange, freshClock, lastSecond, lastMicro, greatestOffset, greatestFrequency, greatestConstant, greatestError, statusBad}
 use Rattle.clock.specs.declared.state.Clock.{Clock}
 use Rattle.record.specs.Layout.{version, numbersOf, recordOf, recordLayout}
 use Rattle.record.specs.Reading.{restored, readingOf, accepted}
 use Rattle.record.specs.Saving.{savingOf, bufferAfter}
+use Rattle.record.specs.Inner.{mappedPhase, mappedOffset, mappedFrequency, mappedAdjustment}
 use Rattle.record.specs.Properties.{freshRecord, greatestLength, LongestIs, ReadsBack, NothingFollows, Bytes, Whole, OneForm, Refused, RefusedIsFresh, SavedIsKept}
 use Rattle.record.specs.declared.restore.Restored.{Restored}
 use Rattle.record.specs.declared.save.Saved.{Saved}
@@ -43,13 +44,13 @@ bounded =
     longer 0 _ _ _ (lit< tt) (λ n e. omega (arith, eqb-true n version e)) (λ v.
     longer 4 _ _ _ (lit< tt) (below 4 _ (lit< tt)) (λ seconds.
     longer 2 _ _ _ (lit< tt) (below 2 _ (lit< tt)) (λ us.
-    longer 4 _ _ _ (lit< tt) (λ n e. below 4 536870910 (lit< tt) n (phase-test n ∙ e)) (λ phase.
-    longer 4 _ _ _ (lit< tt) (λ n e. below 4 4194271232 (lit< tt) n (offset-test n ∙ e)) (λ offset.
-    longer 4 _ _ _ (lit< tt) (λ n e. below 4 3355443200 (lit< tt) n (frequency-test n ∙ e)) (λ frequency.
-    longer 4 _ _ _ (lit< tt) (λ n e. below 4 606074880 (lit< tt) n (and-true _ _ (adjustment-test n ∙ e) .0)) (λ adjustment.
+    longer 4 _ _ _ (lit< tt) (λ n e. below 4 mappedPhase (lit< tt) n (phase-test n ∙ e)) (λ phase.
+    longer 4 _ _ _ (lit< tt) (λ n e. below 4 mappedOffset (lit< tt) n (offset-test n ∙ e)) (λ offset.
+    longer 4 _ _ _ (lit< tt) (λ n e. below 4 mappedFrequency (lit< tt) n (frequency-test n ∙ e)) (λ frequency.
+    longer 4 _ _ _ (lit< tt) (λ n e. below 4 mappedAdjustment (lit< tt) n (and-true _ _ (adjustment-test n ∙ e) .0)) (λ adjustment.
     longer 0 _ _ _ (lit< tt) (below 0 _ (lit< tt)) (λ constant.
     longer 0 _ _ _ (lit< tt) (below 0 _ (lit< tt)) (λ flag.
-    longer 4 _ _ _ (lit< tt) (λ n e. below 4 4294967295 (lit< tt) n (and-true _ _ e .0)) (λ reftime.
+    longer 4 _ _ _ (lit< tt) (λ n e. below 4 lastSecond (lit< tt) n (and-true _ _ e .0)) (λ reftime.
     longer 3 _ _ _ (lit< tt) (below 3 _ (lit< tt)) (λ maxerror.
     longer 3 _ _ _ (lit< tt) (below 3 _ (lit< tt)) (λ esterror.
     longer 0 _ _ _ (lit< tt) (below 0 _ (lit< tt)) (λ status.
@@ -140,18 +141,18 @@ refused-is-fresh s = fair-found s (readFrom recordLayout s 0) refl
 abbrev greatest : Clock
 greatest =
     record {
-      seconds = 4294967295;
-      micros = micros 999999;
-      phase = phaseUnits (pos 268435455);
-      offset = offsetUnits (pos 2097135616);
-      frequency = frequencyUnits (pos 1677721600);
+      seconds = lastSecond;
+      micros = micros lastMicro;
+      phase = phaseUnits (pos (phaseUnitsPerMicro - 1));
+      offset = offsetUnits (pos (greatestOffset * offsetUnitsPerMicro));
+      frequency = frequencyUnits (pos greatestFrequency);
       adjustment = phaseUnits (pos 303037440);
-      constant = 4;
+      constant = greatestConstant;
       updated = 1;
-      reftime = 4294967295;
-      maxerror = micros 16000000;
-      esterror = micros 16000000;
-      status = 4;
+      reftime = lastSecond;
+      maxerror = micros greatestError;
+      esterror = micros greatestError;
+      status = statusBad;
     }
 
 greatest-sound : inRange greatest ≡ true

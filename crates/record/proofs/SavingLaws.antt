@@ -2,7 +2,7 @@
 use mathlib.Core.Path.{_≡_, refl, sym, _∙_, ap}
 use mathlib.Core.Bool.{true, false}
 use mathlib.Core.List.{List, _++_}
-use Prim.Native.Nat.{ℕ, _+_, _<_, _≤_}
+use Prim.Native.Nat.{ℕ, _+_, _*_, _<_, _≤_}
 use native.Mathlib.Omega.{arith}
 use lib.ListN.{length, take, drop, length-append, length-drop}
 use lib.Seq.{take-length}
@@ -18,9 +18,8 @@ use Rattle.record.specs.Saving.{savingRefusal, savingOf, bufferAfter, Sa
 
 -- ---- the record before it is copied
 
--- thirteen numbers of five bytes at most
-most : (c : Clock) → length (recordOf c) ≤ 65
-unfolding recordOf numbersOf
+most : (c : Clock) → length (recordOf c) ≤ 5 * length (numbersOf c)
+unfolding recordOf
 most c = sizes-most (numbersOf c)
 
 -- the record of c stands at the beginning of the text, and was found to be as long as it is
@@ -28,7 +27,7 @@ pub record Drafted (c : Clock) (w : Written) (text : List ℕ) : Type 0 where
   pub size : w .next ≡ length (recordOf c)
   pub bytes : take (w .next) text ≡ recordOf c
 
-pub drafted : (c : Clock) (blank : List ℕ) → length blank ≡ 65 → {w : Written} {text : List ℕ} → w ≡ answered blank 0 (recordOf c)
+pub drafted : (c : Clock) (blank : List ℕ) → length blank ≡ 5 * length (numbersOf c) → {w : Written} {text : List ℕ} → w ≡ answered blank 0 (recordOf c)
     → text ≡ filled blank 0 (recordOf c) → Drafted c w text
 drafted c blank l {w} {text} p q =
     let ws = recordOf c in

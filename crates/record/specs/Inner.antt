@@ -1,5 +1,5 @@
 -- What the reader's private functions answer. No public promise names these.
-use Prim.Native.Nat.{ℕ}
+use Prim.Native.Nat.{ℕ, _*_, _-_}
 use lib.IntN.{ℤ}
 use mathlib.Core.Bool.{Bool, cond, _&&_}
 use lib.Dec.{leb, eqb}
@@ -7,7 +7,8 @@ use lib.Signed.{leZ}
 use Rattle.number.specs.Layout.{Layout, whole}
 use Rattle.number.specs.Mapping.{unmapped}
 use Rattle.number.specs.Reading.{Found, number, refused}
-use Rattle.clock.specs.State.{lastSecond}
+use Rattle.clock.specs.Units.{offsetUnitsPerMicro, phaseUnitsPerMicro}
+use Rattle.clock.specs.State.{lastSecond, greatestOffset, greatestFrequency}
 use Rattle.clock.specs.declared.state.Clock.{Clock}
 use Rattle.record.specs.Layout.{timeFields, loopFields, rateFields, updateFields, errorFields, clockOf}
 use Rattle.record.specs.declared.field.Field.{Field}
@@ -33,6 +34,19 @@ betweenZ least most z = leZ least z && leZ z most
 -- numbers 0 to most, of signed numbers from least on
 abbrev pub fromTo : ℤ → ℕ → ℕ → Bool
 fromTo least most n = leb n most && leZ least (unmapped n)
+
+-- the greatest numbers that the signed fields are mapped to
+abbrev pub mappedPhase : ℕ
+mappedPhase = 2 * (phaseUnitsPerMicro - 1)
+
+abbrev pub mappedOffset : ℕ
+mappedOffset = 2 * (greatestOffset * offsetUnitsPerMicro)
+
+abbrev pub mappedFrequency : ℕ
+mappedFrequency = 2 * greatestFrequency
+
+abbrev pub mappedAdjustment : ℕ
+mappedAdjustment = 2 * 303037440
 
 -- the largest second of an earlier update
 abbrev pub lastReftime : ℕ → ℕ

@@ -12,8 +12,11 @@ fn wide(x: u8) -> u32
     x as u32
 }
 
-// The thirteen numbers of a clock's record.
-pub(crate) fn numbers(c: Clock) -> [u32; 13]
+// How many numbers a record has.
+pub(crate) const NUMBERS: usize = 13;
+
+// The numbers of a clock's record.
+pub(crate) fn numbers(c: Clock) -> [u32; NUMBERS]
     ensures { λ r. ⌜ r ≡ numbersOf c ⌝ }
 {
     let phase = number::map(c.phase.0);

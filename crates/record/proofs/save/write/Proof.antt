@@ -4,11 +4,10 @@ use borrow.Author.Tests.{not-true, not-false}
 use mathlib.Core.Path.{_≡_, refl, sym, _∙_, ap}
 use mathlib.Core.Bool.{true}
 use native.Mathlib.Omega.{arith}
-use lib.Seq.{length-take-le}
 use Rattle.number.specs.Form.{bytesOfAll}
 use Rattle.number.specs.Writing.{answered, filled}
 use Rattle.clock.specs.State.{inRange}
-use Rattle.record.specs.Layout.{recordOf}
+use Rattle.record.specs.Layout.{numbersOf, recordOf}
 use Rattle.record.proofs.SavingLaws.{Drafted, drafted, copied, out-of-range, too-short, stored}
 use Rattle.record.proofs.save.write.Statement.{statement}
 use Rattle.record.proofs.save.write.Tie as tie
@@ -21,6 +20,7 @@ unfolding recordOf
 whole c = ap bytesOfAll (c .before .before .before .numbers .ensures)
 
 draft : (c : tie.After-write-all) → Drafted (start c .args .c) (c .write-all .result) (c .write-all .last .0)
+unfolding numbersOf
 draft c =
     drafted (start c .args .c) _ refl
     (c .write-all .ensures .answer ∙ ap (answered _ 0) (whole c))
