@@ -8,7 +8,7 @@ use clock::outcome::Outcome;
 use clock::state::Clock;
 use clock::tick::tick;
 use clock::units::AskedMicros;
-use number::zigzag::unmap;
+use number::unmap;
 use request::request::Request;
 use request::request::adjust;
 use request::units::AskedFrequency;

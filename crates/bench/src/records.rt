@@ -10,7 +10,7 @@ use clock::state::Clock;
 use clock::state::fresh;
 use clock::units::Micros;
 use clock::units::PhaseUnits;
-use record::save::Saved;
+use record::Saved;
 
 fn wide(b: u8) -> u64 {
     b as u64
@@ -55,7 +55,7 @@ pub(crate) fn writes(count: u64) -> u64 {
     let mut i: u64 = 0;
     while i < count {
         let k = (i % 64) as usize;
-        let saved = record::save::write(all[k], &mut buf);
+        let saved = record::write(all[k], &mut buf);
         let p = (i % 23) as usize;
         sum = mix(mix(mix_saved(sum, saved), wide(buf[p])), wide(buf[p + 23]));
         i += 1;
@@ -73,7 +73,7 @@ fn fill_records(bytes: &mut [u8]) -> [usize; 64]
     let mut i: usize = 0;
     while i < 64 {
         let p = 64 * i;
-        let saved = record::save::write(all[i], &mut bytes[p..]);
+        let saved = record::write(all[i], &mut bytes[p..]);
         lengths[i] = saved.length;
         i += 1;
     }
@@ -89,7 +89,7 @@ pub(crate) fn reads(count: u64) -> u64 {
         let k = (i % 64) as usize;
         let p = 64 * k;
         let e = p + lengths[k] % 64;
-        let r = record::restore::read(&bytes[p..e]);
+        let r = record::read(&bytes[p..e]);
         sum = mix_clock(mix(sum, r.refusal as u64), r.clock);
         i += 1;
     }

@@ -1,7 +1,7 @@
 // The checksum of an operation's results.
 use clock::state::Clock;
 use clock::units::Micros;
-use number::zigzag::map;
+use number::map;
 
 // One result more: 31 times the checksum's low 58 bits, and the result's low 32 bits added.
 pub(crate) fn mix(sum: u64, x: u64) -> u64 {

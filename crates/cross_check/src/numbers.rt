@@ -10,8 +10,8 @@ use crate::form::laid;
 use crate::random::draw;
 use crate::signed::minus;
 use crate::signed::pick;
-use number::decode::Decoded;
-use number::encode::Written;
+use number::Decoded;
+use number::Written;
 
 // A power of 128 with 1 added or taken off, or any number of up to 32 bits.
 fn some_number(case: u64, what: u64) -> u64 {
@@ -43,7 +43,7 @@ pub(crate) fn read(case: u64) -> Verdict {
     let end = (draw(case, 341) % 65) as usize;
     let mine = crate::form::read(&bytes, end, at);
     let next = at % 4294967296 + mine.size % 8;
-    let same = match number::decode::read(&bytes[..end], at) {
+    let same = match number::read(&bytes[..end], at) {
         Decoded::Value { value, next: place } => {
             (mine.refusal == 0) & (mine.value == value) & (next == place)
         }
@@ -106,10 +106,10 @@ pub(crate) fn write(case: u64) -> Verdict {
     let mut buf = [fill; 64];
     let refusal = pick((at <= room) & (d.next <= room), 0, 14);
     if count == 1 {
-        let w = number::encode::write(&mut buf[..room], at, x);
+        let w = number::write(&mut buf[..room], at, x);
         return agree(w, &buf, refusal, fill, d);
     }
-    let w = number::encode::write_all(&mut buf[..room], at, &words[..count]);
+    let w = number::write_all(&mut buf[..room], at, &words[..count]);
     agree(w, &buf, refusal, fill, d)
 }
 
@@ -122,9 +122,9 @@ pub(crate) fn map(case: u64) -> Verdict {
         minus(18446744073709551615, n / 8 % 3),
         draw(case, 362),
     );
-    let mut same = number::zigzag::map(to_i32(n)) == word(n);
-    same = same & (number::zigzag::unmap(m) == to_i64(m));
-    same = same & (number::encode::size(word(n)) == d.next);
+    let mut same = number::map(to_i32(n)) == word(n);
+    same = same & (number::unmap(m) == to_i64(m));
+    same = same & (number::size(word(n)) == d.next);
     Verdict {
         refusal: 0,
         same: same,

@@ -12,7 +12,7 @@ use crate::rules::fresh;
 use crate::rules::row_of;
 use crate::signed::pick;
 use clock::state::Clock;
-use number::encode::Written;
+use number::Written;
 
 // All thirteen numbers.
 const WHOLE: u64 = 8191;
@@ -26,7 +26,7 @@ pub(crate) fn write(case: u64) -> Verdict {
     let mut buf = [fill; 64];
     let d = laid(&row, WHOLE, 0, fill);
     let refusal = pick(fits(&row, 13), pick(d.next <= room, 0, 14), 1);
-    let w = record::save::write(clock_of(s), &mut buf[..room]);
+    let w = record::write(clock_of(s), &mut buf[..room]);
     let told = Written {
         refusal: w.refusal,
         next: w.length,
@@ -61,7 +61,7 @@ fn read_refusal(bytes: &[u8; 64], end: usize, row: &mut [u64; 13]) -> u64 {
 // Two clocks are the same where their records are: the clock that was read is written, which the group above compares.
 fn same_record(row: &[u64; 13], c: Clock) -> Verdict {
     let mut buf = [0u8; 64];
-    let w = record::save::write(c, &mut buf);
+    let w = record::write(c, &mut buf);
     agree(
         Written {
             refusal: w.refusal,
@@ -80,7 +80,7 @@ fn read_both(bytes: [u8; 64], end: usize) -> Verdict {
     if refusal != 0 {
         row = row_of(fresh());
     }
-    let r = record::restore::read(&bytes[..end % 65]);
+    let r = record::read(&bytes[..end % 65]);
     let v = same_record(&row, r.clock);
     Verdict {
         refusal: refusal,

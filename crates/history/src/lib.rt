@@ -5,8 +5,8 @@ ghost use Rattle.number.specs.Reading.{told as Number·told};
 ghost use Rattle.history.specs.Event.{told, offsetAsked, frequencyAsked, fieldAt, ticksAt, settingAt, requestAt, eventAt};
 ghost use Rattle.history.specs.Inner.{refusedAs};
 use clock::units::AskedMicros;
-use number::decode::Decoded;
-use number::zigzag::unmap;
+use number::Decoded;
+use number::unmap;
 use request::request::ADJ_ESTERROR;
 use request::request::ADJ_FREQUENCY;
 use request::request::ADJ_MAXERROR;
@@ -48,7 +48,7 @@ fn refusal_of(d: Decoded) -> Entry
 fn ticks_at(bytes: &[u8], at: usize) -> Entry
     ensures { λ r. ⌜ told r ≡ ticksAt (now (bytes .entry)) at ⌝ }
 {
-    let d0 = number::decode::read(bytes, at);
+    let d0 = number::read(bytes, at);
     let Decoded::Value { value: count, next } = d0 else {
         return refusal_of(d0);
     };
@@ -61,12 +61,12 @@ fn ticks_at(bytes: &[u8], at: usize) -> Entry
 fn setting_at(bytes: &[u8], at: usize) -> Entry
     ensures { λ r. ⌜ told r ≡ settingAt (now (bytes .entry)) at ⌝ }
 {
-    let d0 = number::decode::read(bytes, at);
+    let d0 = number::read(bytes, at);
     let Decoded::Value { value, next } = d0 else {
         return refusal_of(d0);
     };
     let seconds = value;
-    let d1 = number::decode::read(bytes, next);
+    let d1 = number::read(bytes, next);
     let Decoded::Value { value, next } = d1 else {
         return refusal_of(d1);
     };
@@ -90,7 +90,7 @@ fn field_at(bytes: &[u8], at: usize, mode: u64, bit: u64) -> Decoded
     ensures { λ r. ⌜ Number·told r ≡ fieldAt mode bit (now (bytes .entry)) at ⌝ }
 {
     if mode / bit % 2 == 1 {
-        return number::decode::read(bytes, at);
+        return number::read(bytes, at);
     }
     Decoded::Value { value: 0, next: at }
 }
@@ -110,7 +110,7 @@ fn frequency_of(n: u64) -> AskedFrequency
 fn request_at(bytes: &[u8], at: usize) -> Entry
     ensures { λ r. ⌜ told r ≡ requestAt (now (bytes .entry)) at ⌝ }
 {
-    let d0 = number::decode::read(bytes, at);
+    let d0 = number::read(bytes, at);
     let Decoded::Value { value: mode, next } = d0 else {
         return refusal_of(d0);
     };
@@ -164,7 +164,7 @@ fn request_at(bytes: &[u8], at: usize) -> Entry
 pub fn read(bytes: &[u8], at: usize) -> Entry
     ensures { λ r. ⌜ told r ≡ eventAt (now (bytes .entry)) at ⌝ }
 {
-    let d = number::decode::read(bytes, at);
+    let d = number::read(bytes, at);
     let Decoded::Value { value: code, next } = d else {
         return refusal_of(d);
     };

@@ -1,17 +1,14 @@
 -- Bytes written into a lent buffer: the answer and the buffer by the room that there is, and what is read there afterwards.
-use mathlib.Core.Path.{_≡_, sym, _∙_, ap}
+use mathlib.Core.Path.{_≡_, refl, sym, _∙_, ap}
 use mathlib.Core.List.{List, _++_, append-assoc}
 use mathlib.Core.Logic.{⊎-elim}
-use Prim.Native.Nat.{ℕ, _+_, _^_, _<_, _≤_}
+use Prim.Native.Nat.{ℕ, _+_, _<_, _≤_}
 use native.Mathlib.Omega.{arith}
 use lib.ListN.{length, take, drop}
-use lib.Seq.{sets, sets-eq, length-sets, drop-at, take-at, drop-drop, length-take-le, take-append-seam, drop-append-seam}
+use lib.Seq.{sets, sets-eq, length-sets, drop-at, length-take-le, take-append-seam}
 use borrow.Author.Tests.{le-leb, lt-leb, leb-true, leb-false}
-use Rattle.number.specs.Form.{bytesOf}
-use Rattle.number.specs.Reading.{number, numberAt}
-use Rattle.number.specs.Writing.{room, answered, filled}
+use Rattle.number.specs.Writing.{room, answered, filled, Counts, Writes}
 use Rattle.number.proofs.Lists.{either}
-use Rattle.number.proofs.ReadWritten.{read-written}
 
 module _ (buf : List ℕ) (at : ℕ) (ws : List ℕ) where
   module _ (h : at + length ws ≤ length buf) where
@@ -26,18 +23,11 @@ module _ (buf : List ℕ) (at : ℕ) (ws : List ℕ) where
     unfolding answered
     answered-room = simp (le-leb _ _ h)
 
-    -- the bytes before the place stay, the bytes ws stand at it, and those after them stay
-    pub filled-before : take at (filled buf at ws) ≡ take at buf
-    filled-before = ap (take at) filled-room ∙ rw append-assoc (take-at (take at buf) _ at (length-take-le at buf (omega arith)))
-
-    pub filled-at : drop at (filled buf at ws) ≡ ws ++ drop (at + length ws) buf
+    filled-at : drop at (filled buf at ws) ≡ ws ++ drop (at + length ws) buf
     filled-at = ap (drop at) filled-room ∙ rw append-assoc (drop-at (take at buf) _ at (length-take-le at buf (omega arith)))
 
     pub filled-there : take (length ws) (drop at (filled buf at ws)) ≡ ws
     filled-there = ap (take (length ws)) filled-at ∙ take-append-seam ws _
-
-    pub filled-after : drop (at + length ws) (filled buf at ws) ≡ drop (at + length ws) buf
-    filled-after = sym (drop-drop (length ws) at (filled buf at ws)) ∙ ap (drop (length ws)) filled-at ∙ drop-append-seam ws _
 
   pub filled-short : length buf < at + length ws → buf ≡ filled buf at ws
   unfolding filled
@@ -54,7 +44,26 @@ filled-length buf at ws =
     (λ t. sym (ap length (filled-short buf at ws (leb-false _ _ t))))
     (either (room buf at ws))
 
--- read after write: the number, and the place that the writer answered
-pub read-after-write : (buf : List ℕ) (at n : ℕ) → n < 2 ^ 35 → at + length (bytesOf n) ≤ length buf
-    → numberAt (filled buf at (bytesOf n)) at ≡ number n (at + length (bytesOf n))
-read-after-write buf at n b h = read-written _ (drop (at + length (bytesOf n)) buf) n at b (filled-at buf at (bytesOf n) h)
+-- a count within the buffer, and one within a buffer that was filled
+pub counted : (buf after : List ℕ) (n : ℕ) → n ≤ length after → length after ≡ length buf → Counts buf after n
+counted buf after n h e = record { within = h; part = sym (length-take-le n after h); same = e }
+
+-- what a writer promises, with room and without
+module _ (buf : List ℕ) (at : ℕ) (ws : List ℕ) where
+  pub writes-room : at + length ws ≤ length buf → {next : ℕ} {after : List ℕ} → next ≡ at + length ws → after ≡ sets buf at ws
+      → Writes buf after at ws (record { refusal = 0; next = next })
+  writes-room h {next} {after} p q =
+      let same : length after ≡ length buf = ap length q ∙ length-sets buf at ws in
+      record {
+        answer = rw p (answered-room buf at ws h);
+        buffer = q ∙ filled-sets buf at ws h;
+        counts = counted buf after next (omega arith) same;
+      }
+
+  pub writes-short : length buf < at + length ws → Writes buf buf at ws (record { refusal = 14; next = 0 })
+  writes-short h =
+      record {
+        answer = answered-short buf at ws h;
+        buffer = filled-short buf at ws h;
+        counts = counted buf buf 0 (omega arith) refl;
+      }

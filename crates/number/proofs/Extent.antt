@@ -11,6 +11,7 @@ use lib.Dec.{leb}
 use lib.ListN.{length, take, drop, length-drop}
 use lib.Seq.{length-take-le}
 use borrow.Author.Tests.{leb-false}
+use Rattle.number.specs.Form.{limit}
 use Rattle.number.specs.Reading.{Found, number, refused, leadingMore, valueOf, longForm, judged, numberAt}
 use Rattle.number.proofs.Steps.{checked, never}
 
@@ -33,7 +34,7 @@ value-below [] = omega arith
 value-below (b ∷ bs) = omega (arith, value-below bs, pow-succ' 128 (length bs))
 
 pub record Extent (s : List ℕ) (at v next : ℕ) : Type 0 where
-  pub small : v < 2 ^ 35
+  pub small : v < limit
   pub after : at < next
   pub most : next ≤ at + 5
   pub within : next ≤ length s

@@ -2,10 +2,10 @@
 use mathlib.Core.Path.{_≡_, refl, _∙_, ap, subst}
 use mathlib.Core.Bool.{true, false}
 use mathlib.Core.Logic.{⊎-elim}
-use Prim.Native.Nat.{ℕ, zero, suc, _+_, _*_, _-_, _/_, _%_, _^_, _<_, _≤_}
+use Prim.Native.Nat.{ℕ, zero, suc, _+_, _*_, _-_, _/_, _%_, _^_, _<_}
 use native.Mathlib.Omega.{arith}
 use lib.Dec.{T, eqb}
-use lib.IntN.{ℤ, pos, negsuc, natAbs, negℤ, _-ℤ_, _*ℤ_}
+use lib.IntN.{ℤ, pos, negsuc, negℤ, _-ℤ_, _*ℤ_}
 use lib.Signed.{ltZ}
 use mir.Syntax.{Width, w8, w16, w32, w64, w128}
 use mir.Val.{SFits, bits, hbits, toZ, ofZ}
@@ -34,12 +34,6 @@ mapped-unmapped n =
     (λ t. let h : n % 2 ≡ 0 → ⊥ = eqb-false _ 0 t in ap mapped (odd n h) ∙ omega (arith, h))
     (either (eqb (n % 2) 0))
 
--- a signed number is written as twice its size at most
-pub mapped-abs : (z : ℤ) → mapped z ≤ 2 * natAbs z
-unfolding mapped
-mapped-abs (pos v) = omega arith
-mapped-abs (negsuc k) = omega arith
-
 -- ---- in the bits of a width
 
 double : (w : Width) → 2 ^ bits w ≡ 2 * 2 ^ hbits w
@@ -48,12 +42,6 @@ double w16 = refl
 double w32 = refl
 double w64 = refl
 double w128 = refl
-
--- the signed numbers of a width are written as the numbers of that width
-pub mapped-fits : {w : Width} (z : ℤ) → SFits w z → mapped z < 2 ^ bits w
-unfolding mapped
-mapped-fits {w} (pos v) f = omega (arith, f .sfits, double w)
-mapped-fits {w} (negsuc k) f = omega (arith, f .sfits, double w)
 
 pub unmapped-fits : {w : Width} (n : ℕ) → n < 2 ^ bits w → SFits w (unmapped n)
 unmapped-fits {w} n h =

@@ -8,9 +8,9 @@ use lib.Dec.{ltb}
 use lib.ListN.{length, drop}
 use lib.Seq.{drop-drop, drop-append-seam}
 use borrow.Author.Tests.{ltb-true, ltb-false}
-use Rattle.number.specs.Form.{bytesFrom, bytesOf}
+use Rattle.number.specs.Form.{limit, bytesFrom, bytesOf}
 use Rattle.number.specs.Reading.{number, numberAt}
-use Rattle.number.specs.Later.{laterAt}
+use Rattle.number.specs.Inner.{laterAt}
 use Rattle.number.proofs.Lists.{either, Here, here}
 use Rattle.number.proofs.Sizes.{from-last, from-more, shorter}
 use Rattle.number.proofs.Steps.{before, first-last, first-more, later-last, later-more}
@@ -45,7 +45,7 @@ module _ (s rest : List ℕ) where
       ∙ joined n at (length (bytesFrom f (n / 128)))))
       (either (ltb n 128))
 
-  pub read-written : (n at : ℕ) → n < 2 ^ 35 → drop at s ≡ bytesOf n ++ rest → numberAt s at ≡ number n (at + length (bytesOf n))
+  pub read-written : (n at : ℕ) → n < limit → drop at s ≡ bytesOf n ++ rest → numberAt s at ≡ number n (at + length (bytesOf n))
   unfolding bytesOf
   read-written n at b e =
       ⊎-elim

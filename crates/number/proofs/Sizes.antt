@@ -11,7 +11,7 @@ use lib.Dec.{ltb}
 use lib.ListN.{length, getD, drop, set, length-append, drop-of-length-le}
 use lib.Seq.{drop-cons, sets}
 use borrow.Author.Tests.{ltb-true, ltb-false, le-ltb, lt-ltb}
-use Rattle.number.specs.Form.{bytesFrom, bytesOf, bytesOfAll}
+use Rattle.number.specs.Form.{limit, bytesFrom, bytesOf, bytesOfAll}
 use Rattle.number.proofs.Lists.{either, sets-append}
 
 -- ---- the bytes of a number
@@ -43,7 +43,7 @@ pub bytes-last : (n : ℕ) → n < 128 → bytesOf n ≡ n ∷ []
 unfolding bytesOf
 bytes-last n h = from-last 4 n h
 
-pub bytes-more : (n : ℕ) → n < 2 ^ 35 → 128 ≤ n → bytesOf n ≡ (128 + n % 128) ∷ bytesOf (n / 128)
+pub bytes-more : (n : ℕ) → n < limit → 128 ≤ n → bytesOf n ≡ (128 + n % 128) ∷ bytesOf (n / 128)
 unfolding bytesOf
 bytes-more n b h =
     from-more 3 n h ∙ ap (λ (l : List ℕ). (128 + n % 128) ∷ l) (sym (enough 3 (n / 128) (omega arith)))
@@ -53,7 +53,7 @@ bytes-more n b h =
 pub size-last : (n : ℕ) → n < 128 → length (bytesOf n) ≡ 1
 size-last n h = ap length (bytes-last n h)
 
-pub size-more : (n : ℕ) → n < 2 ^ 35 → 128 ≤ n → length (bytesOf n) ≡ 1 + length (bytesOf (n / 128))
+pub size-more : (n : ℕ) → n < limit → 128 ≤ n → length (bytesOf n) ≡ 1 + length (bytesOf (n / 128))
 size-more n b h = ap length (bytes-more n b h) ∙ omega arith
 
 -- a number below 128 ^ (k + 1) takes k + 1 bytes at most
@@ -96,7 +96,7 @@ by-limit n m f g =
     ⊎-elim (λ (t : ltb n m ≡ true). simp t (f (ltb-true n m t))) (λ (t : ltb n m ≡ false). simp t (g (ltb-false n m t))) (either (ltb n m))
 
 -- 1 byte below 2^7, 2 below 2^14, 3 below 2^21, 4 below 2^28, 5 below 2^35
-pub size-table : (n : ℕ) → n < 2 ^ 35
+pub size-table : (n : ℕ) → n < limit
     → length (bytesOf n) ≡ cond (ltb n (2 ^ 7)) 1 (cond (ltb n (2 ^ 14)) 2 (cond (ltb n (2 ^ 21)) 3 (cond (ltb n (2 ^ 28)) 4 5)))
 size-table n h =
     by-limit n (2 ^ 7) (size-last n) (λ l1.
@@ -152,7 +152,7 @@ all-end ns i h = ap bytesOfAll (drop-of-length-le ns h)
 pub sets-last : (l : List ℕ) (p n : ℕ) → n < 128 → sets l p (bytesOf n) ≡ set l p n
 sets-last l p n h = ap (sets l p) (bytes-last n h)
 
-pub sets-more : (l : List ℕ) (p n : ℕ) → n < 2 ^ 35 → 128 ≤ n → sets l p (bytesOf n) ≡ sets (set l p (128 + n % 128)) (p + 1) (bytesOf (n / 128))
+pub sets-more : (l : List ℕ) (p n : ℕ) → n < limit → 128 ≤ n → sets l p (bytesOf n) ≡ sets (set l p (128 + n % 128)) (p + 1) (bytesOf (n / 128))
 sets-more l p n b h = ap (sets l p) (bytes-more n b h) ∙ ap (λ (k : ℕ). sets (set l p (128 + n % 128)) k (bytesOf (n / 128))) (omega arith)
 
 pub sets-at : (l : List ℕ) (p : ℕ) (ns : List ℕ) (i : ℕ) → i < length ns

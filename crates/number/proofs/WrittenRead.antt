@@ -7,19 +7,19 @@ use Prim.Native.Nat.{ℕ, zero, suc, _+_, _*_, _/_, _%_, _^_, _<_, _≤_}
 use native.Mathlib.Nat.{pow-succ', one-le-pow}
 use native.Mathlib.Omega.{arith}
 use lib.Dec.{ltb, leb, eqb}
-use lib.ListN.{length, getD, take, drop, length-append, length-drop}
+use lib.ListN.{length, getD, take, drop}
 use lib.Seq.{take-append-seam}
 use borrow.Author.Tests.{ltb-true, ltb-false, leb-true, leb-false, eqb-true, eqb-false}
-use Rattle.number.specs.Form.{bytesFrom, bytesOf}
+use Rattle.number.specs.Form.{limit, bytesFrom, bytesOf}
 use Rattle.number.specs.Reading.{Found, number, refused, numberAt}
-use Rattle.number.specs.Later.{laterAt}
+use Rattle.number.specs.Inner.{laterAt}
 use Rattle.number.proofs.Lists.{either, opened}
 use Rattle.number.proofs.Sizes.{from-last, from-more}
 use Rattle.number.proofs.Steps.{before, never, first-none, first-last, first-more, later-none, later-zero, later-last, later-more, later-no-more}
 
 -- the bytes from place at on are those of v, and then those from next on
 pub record Holds (s : List ℕ) (at v next : ℕ) : Type 0 where
-  pub small : v < 2 ^ 35
+  pub small : v < limit
   pub bytes : drop at s ≡ bytesOf v ++ drop next s
   pub within : next ≤ length s
 
@@ -126,12 +126,6 @@ module _ (s : List ℕ) (bytes : (i : ℕ) → getD s i 0 < 256) where
       record { small = w .small; bytes = w .bytes; within = w .within })
       (either (ltb (getD s at 0) 128))
 
-  -- the place after it is as far on as its bytes are many, and the bytes up to there are those that would be written
-  pub next-read : (at v next : ℕ) → numberAt s at ≡ number v next → next ≡ at + length (bytesOf v)
-  next-read at v next e =
-      let w = written-read at v next e in
-      let h : at < length s = inside at v next e in
-      omega (arith, ap length (w .bytes), length-append (bytesOf v) (drop next s), length-drop at s, length-drop next s, w .within)
-
+  -- the bytes there are those that would be written
   pub one-form : (at v next : ℕ) → numberAt s at ≡ number v next → take (length (bytesOf v)) (drop at s) ≡ bytesOf v
   one-form at v next e = ap (take (length (bytesOf v))) (written-read at v next e .bytes) ∙ take-append-seam (bytesOf v) (drop next s)

@@ -3,15 +3,30 @@
 -- below 2^35; a byte is a number below 256.
 use mathlib.Core.Bool.{cond}
 use mathlib.Core.List.{List, [], _∷_, _++_}
-use Prim.Native.Nat.{ℕ, zero, suc, _+_, _/_, _%_}
+use Prim.Native.Nat.{ℕ, zero, suc, _+_, _/_, _%_, _^_}
 use lib.Dec.{ltb}
+
+-- what a group of seven bits holds: so many values
+abbrev pub group : ℕ
+group = 128
+
+-- the top bit of a byte
+abbrev pub topBit : ℕ
+topBit = 0x80
+
+-- the bytes of the longest number, and so what every number is below
+abbrev pub mostBytes : ℕ
+mostBytes = 5
+
+abbrev pub limit : ℕ
+limit = 2 ^ 35
 
 -- the bytes of n, where at most `more` may follow the first: a group that is the last one as it is, any other with the top bit set
 unfoldable pub bytesFrom : ℕ → ℕ → List ℕ
 bytesFrom zero n = n ∷ []
-bytesFrom (suc more) n = cond (ltb n 128) (n ∷ []) ((128 + n % 128) ∷ bytesFrom more (n / 128))
+bytesFrom (suc more) n = cond (ltb n group) (n ∷ []) ((topBit + n % group) ∷ bytesFrom more (n / group))
 
--- the bytes of n: at most five
+-- the bytes of n: at most five, the first and four more
 unfoldable pub bytesOf : ℕ → List ℕ
 bytesOf n = bytesFrom 4 n
 

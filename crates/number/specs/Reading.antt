@@ -5,6 +5,7 @@ use mathlib.Core.List.{List, [], _∷_}
 use Prim.Native.Nat.{ℕ, suc, _+_, _*_, _%_}
 use lib.Dec.{leb, ltb, eqb}
 use lib.ListN.{length, getD, take, drop}
+use Rattle.number.specs.Form.{group, topBit, mostBytes}
 use Rattle.number.specs.declared.decode.Decoded.{Decoded}
 use Rattle.number.specs.declared.decode.Decoded.the-variants as D
 
@@ -15,7 +16,7 @@ pub data Found : Type 0 where
 
 -- the top bit says that more follows
 abbrev pub saysMore : ℕ → Bool
-saysMore b = leb 128 b
+saysMore b = leb topBit b
 
 -- how many bytes, from the first on, say that more follows
 unfoldable pub leadingMore : List ℕ → ℕ
@@ -25,7 +26,7 @@ leadingMore (b ∷ bs) = cond (saysMore b) (suc (leadingMore bs)) 0
 -- groups of seven bits, lowest first
 unfoldable pub valueOf : List ℕ → ℕ
 valueOf [] = 0
-valueOf (b ∷ bs) = b % 128 + 128 * valueOf bs
+valueOf (b ∷ bs) = b % group + group * valueOf bs
 
 -- not the shortest form: after bytes that say more a last byte of 0, without which the value were the same
 abbrev pub longForm : List ℕ → ℕ → Bool
@@ -34,7 +35,7 @@ longForm bs more = ltb 0 more && eqb (getD bs more 0) 0
 -- the bytes from place `at` on, of which the first `more` say that more follows: the refusals, and the number that the next byte ends
 unfoldable pub judged : ℕ → List ℕ → ℕ → Found
 judged at bs more =
-    cond (leb 5 more) (refused 11)
+    cond (leb mostBytes more) (refused 11)
     (cond (leb (length bs) more) (refused 10)
     (cond (longForm bs more) (refused 11)
     (number (valueOf (take (suc more) bs)) (at + suc more))))

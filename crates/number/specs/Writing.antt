@@ -1,8 +1,9 @@
 -- Writing bytes into a lent buffer. Document 01's refusal 14: "lent buffer shorter than what is to be written". A refused call leaves the
 -- buffer as it was.
+use mathlib.Core.Path.{_≡_}
 use mathlib.Core.Bool.{Bool, cond}
 use mathlib.Core.List.{List, _++_}
-use Prim.Native.Nat.{ℕ, _+_}
+use Prim.Native.Nat.{ℕ, _+_, _≤_}
 use lib.Dec.{leb}
 use lib.ListN.{length, take, drop}
 use Rattle.number.specs.declared.encode.Written.{Written}
@@ -18,3 +19,16 @@ answered buf at ws = cond (room buf at ws) (record { refusal = 0; next = at + le
 -- the buffer afterwards: ws from place `at` on, and every other byte as it was; with too little room all of it as it was
 unfoldable pub filled : List ℕ → ℕ → List ℕ → List ℕ
 filled buf at ws = cond (room buf at ws) (take at buf ++ ws ++ drop (at + length ws) buf) buf
+
+-- The place n that a writer answers counts bytes of the buffer, and the buffer has the length that it had. All of this follows from what
+-- is said of both; it is stated so that a caller can go on with `&buf[..n]` and write no proof.
+pub record Counts (buf after : List ℕ) (n : ℕ) : Type 0 where
+  pub within : n ≤ length after
+  pub part : n ≡ length (take n after)
+  pub same : length after ≡ length buf
+
+-- what a writer of the bytes ws at place `at` promises: its answer, the buffer afterwards, and what a caller needs of them
+pub record Writes (buf after : List ℕ) (at : ℕ) (ws : List ℕ) (r : Written) : Type 0 where
+  pub answer : r ≡ answered buf at ws
+  pub buffer : after ≡ filled buf at ws
+  pub counts : Counts buf after (r .next)

@@ -1,8 +1,21 @@
 // Reading a number at a place of some bytes.
 ghost use mathlib.Core.Path.{_≡_};
-ghost use Prim.Native.Nat.{_<_};
+ghost use Prim.Native.Nat.{_*_, _<_};
+ghost use Rattle.number.specs.Form.{group};
 ghost use Rattle.number.specs.Reading.{numberAt, told};
-ghost use Rattle.number.specs.Later.{laterAt, onto};
+ghost use Rattle.number.specs.Inner.{laterAt, onto};
+use crate::form::GROUP;
+use crate::form::MORE;
+
+// A byte from here on says that more follows; and what a group is worth after one, or two, before it.
+const SAYS_MORE: u64 = MORE as u64;
+
+const SECOND: u64 = GROUP as u64;
+
+const THIRD: u64 = SECOND * SECOND;
+
+// The top bits of two bytes that say more.
+const TOP_BITS: u64 = SAYS_MORE + SECOND * SAYS_MORE;
 
 // What reading at a place gives: the number there, below 2^35, and the place after it; or the refusal, 10 or 11.
 pub enum Decoded {
@@ -25,7 +38,7 @@ pub fn read(bytes: &[u8], at: usize) -> Decoded
         return Decoded::Refused(10);
     }
     let b0 = wide(bytes[at]);
-    if b0 < 128 {
+    if b0 < SAYS_MORE {
         return Decoded::Value {
             value: b0,
             next: at + 1,
@@ -36,27 +49,26 @@ pub fn read(bytes: &[u8], at: usize) -> Decoded
         return Decoded::Refused(10);
     }
     let b1 = wide(bytes[p]);
-    if 128 <= b1 {
-        // Less the top bits: 128, and 128 times 128.
-        return read_long(bytes, p + 1, b0 + 128 * b1 - 16512);
+    if SAYS_MORE <= b1 {
+        return read_long(bytes, p + 1, b0 + SECOND * b1 - TOP_BITS);
     }
     if b1 == 0 {
         return Decoded::Refused(11);
     }
     Decoded::Value {
-        value: b0 + 128 * b1 - 128,
+        value: b0 + SECOND * b1 - SAYS_MORE,
         next: p + 1,
     }
 }
 
 // The same for a number of three bytes or more, from its third byte on; `low` is what the first two hold.
 fn read_long(bytes: &[u8], at: usize, low: u64) -> Decoded
-    requires { ⌜ low < 16384 ⌝ }
-    ensures { λ r. ⌜ told r ≡ onto low 16384 (laterAt 3 (now (bytes .entry)) at) ⌝ }
+    requires { ⌜ low < group * group ⌝ }
+    ensures { λ r. ⌜ told r ≡ onto low (group * group) (laterAt 3 (now (bytes .entry)) at) ⌝ }
 {
     let n = bytes.len();
     let mut sum = low;
-    let mut scale: u64 = 16384;
+    let mut scale: u64 = THIRD;
     let mut p = at;
     let mut left: u64 = 3;
     while 0 < left {
@@ -66,7 +78,7 @@ fn read_long(bytes: &[u8], at: usize, low: u64) -> Decoded
         let b = wide(bytes[p]);
         sum = sum + scale * b;
         p = p + 1;
-        if b < 128 {
+        if b < SAYS_MORE {
             if b == 0 {
                 return Decoded::Refused(11);
             }
@@ -75,7 +87,7 @@ fn read_long(bytes: &[u8], at: usize, low: u64) -> Decoded
                 next: p,
             };
         }
-        scale = scale * 128;
+        scale = scale * SECOND;
         // The byte's top bit is none of the number.
         sum = sum - scale;
         left = left - 1;

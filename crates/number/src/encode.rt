@@ -5,7 +5,10 @@ ghost use lib.Dec.{leb};
 ghost use lib.ListN.{length};
 ghost use lib.Seq.{sets};
 ghost use Rattle.number.specs.Form.{bytesOf, bytesOfAll};
-ghost use Rattle.number.specs.Writing.{answered, filled};
+ghost use Rattle.number.specs.Writing.{Writes};
+use crate::form::GROUP;
+use crate::form::MORE;
+use crate::form::MOST_BYTES;
 
 // The answer of a writer: refusal 0 and the place after what was written, or refusal 14 and 0.
 pub struct Written {
@@ -18,23 +21,32 @@ const TOO_SHORT: Written = Written {
     next: 0,
 };
 
+// A number below these takes no more than one, two, three and four bytes.
+const BELOW_1: u32 = GROUP;
+
+const BELOW_2: u32 = GROUP * BELOW_1;
+
+const BELOW_3: u32 = GROUP * BELOW_2;
+
+const BELOW_4: u32 = GROUP * BELOW_3;
+
 // How many bytes n is written in.
 pub fn size(n: u32) -> usize
     ensures { λ r. ⌜ r ≡ length (bytesOf n) ⌝ }
 {
-    if n < 128 {
+    if n < BELOW_1 {
         return 1;
     }
-    if n < 16384 {
+    if n < BELOW_2 {
         return 2;
     }
-    if n < 2097152 {
+    if n < BELOW_3 {
         return 3;
     }
-    if n < 268435456 {
+    if n < BELOW_4 {
         return 4;
     }
-    5
+    MOST_BYTES
 }
 
 // Writes n from `at` on, where there is room for it, and gives the place after it.
@@ -44,9 +56,9 @@ fn place(buf: &mut [u8], at: usize, n: u32) -> usize
 {
     let mut rest = n;
     let mut p = at;
-    while 128 <= rest {
-        buf[p] = (128 + rest % 128) as u8;
-        rest = rest / 128;
+    while GROUP <= rest {
+        buf[p] = (MORE + rest % GROUP) as u8;
+        rest = rest / GROUP;
         p += 1;
     }
     buf[p] = rest as u8;
@@ -55,7 +67,7 @@ fn place(buf: &mut [u8], at: usize, n: u32) -> usize
 
 // Writes n from `at` on. Every other byte stays; with too little room, every byte.
 pub fn write(buf: &mut [u8], at: usize, n: u32) -> Written
-    ensures { λ r. ⌜ (r ≡ answered (now (buf .entry)) at (bytesOf n)) × (now (buf .exit) ≡ filled (now (buf .entry)) at (bytesOf n)) ⌝ }
+    ensures { λ r. ⌜ Writes (now (buf .entry)) (now (buf .exit)) at (bytesOf n) r ⌝ }
 {
     let k = size(n);
     let len = buf.len();
@@ -76,7 +88,7 @@ fn fit_in(ns: &[u32], room: usize) -> bool
     ensures { λ r. ⌜ r ≡ leb (length (bytesOfAll (now (ns .entry)))) room ⌝ }
 {
     // No number has more than five bytes: where there is room for so many, they need not be counted.
-    if ns.len() <= room / 5 {
+    if ns.len() <= room / MOST_BYTES {
         return true;
     }
     let mut left = room;
@@ -108,7 +120,7 @@ fn place_all(buf: &mut [u8], at: usize, ns: &[u32]) -> usize
 
 // Writes all the numbers, one after the other, from `at` on. Every other byte stays; with too little room for all of them, every byte.
 pub fn write_all(buf: &mut [u8], at: usize, ns: &[u32]) -> Written
-    ensures { λ r. ⌜ (r ≡ answered (now (buf .entry)) at (bytesOfAll (now (ns .entry)))) × (now (buf .exit) ≡ filled (now (buf .entry)) at (bytesOfAll (now (ns .entry)))) ⌝ }
+    ensures { λ r. ⌜ Writes (now (buf .entry)) (now (buf .exit)) at (bytesOfAll (now (ns .entry))) r ⌝ }
 {
     let len = buf.len();
     if len < at {

@@ -3,20 +3,18 @@ use mathlib.Core.Path.{_≡_, refl, sym, _∙_, ap}
 use mathlib.Core.Bool.{Bool, true, false}
 use mathlib.Core.List.{List}
 use mathlib.Core.Logic.{⊎-elim}
-use Prim.Native.Nat.{ℕ, suc, _*_}
+use Prim.Native.Nat.{ℕ}
 use native.Mathlib.Omega.{arith}
-use lib.Dec.{lit<}
-use lib.IntN.{pos, negsuc}
+use lib.IntN.{negsuc}
 use Rattle.number.specs.declared.decode.Decoded.{Decoded}
 use Rattle.number.specs.declared.decode.Decoded.the-variants as D
 use Rattle.number.specs.Reading.{Found, number, refused, numberAt, told}
 use Rattle.number.proofs.Lists.{either}
-use Rattle.number.specs.Mapping.{unmapped}
 use Rattle.clock.specs.State.{phaseRange, offsetRange, frequencyRange, adjustmentRange}
-use Rattle.record.specs.Field.{judgedBy, fieldAt, mappedRange}
-use Rattle.record.specs.Reading.{reftimeRange}
-use Rattle.record.specs.Inner.{toldField, upTo, fromTo, betweenZ, lastReftime}
-use Rattle.record.proofs.Ranges.{phase-bounds, balanced, lopsided, reftime-bounds}
+use Rattle.number.specs.Layout.{judgedBy, fieldAt, mappedRange}
+use Rattle.record.specs.Layout.{reftimeRange}
+use Rattle.record.specs.Inner.{toldField, upTo, fromTo, mappedPhase, mappedOffset, mappedFrequency, mappedAdjustment, lastReftime}
+use Rattle.record.proofs.Ranges.{phase-test, offset-test, frequency-test, adjustment-test, reftime-bounds}
 use Rattle.record.specs.declared.field.Field.{Field}
 use Rattle.record.specs.declared.field.Field.the-variants as F
 
@@ -48,21 +46,17 @@ field-same : (p q : ℕ → Bool) (s : List ℕ) (at : ℕ) → ((n : ℕ) → p
 unfolding fieldAt
 field-same p q s at h = judged-same p q h (numberAt s at)
 
--- signed fields whose ranges are as wide below 0 as above it, tested on the mapped number
-balanced-field : (k : ℕ) (s : List ℕ) (at : ℕ) → fieldAt (upTo (2 * suc k)) s at ≡ fieldAt (mappedRange (betweenZ (negsuc k) (pos (suc k)))) s at
-balanced-field k s at = field-same _ _ s at (balanced k)
+pub phase-field : (s : List ℕ) (at : ℕ) → fieldAt (upTo mappedPhase) s at ≡ fieldAt (mappedRange phaseRange) s at
+phase-field s at = field-same _ _ s at phase-test
 
-pub phase-field : (s : List ℕ) (at : ℕ) → fieldAt (upTo 536870910) s at ≡ fieldAt (mappedRange phaseRange) s at
-phase-field s at = balanced-field 268435454 s at ∙ field-same _ _ s at (λ n. phase-bounds (unmapped n))
+pub offset-field : (s : List ℕ) (at : ℕ) → fieldAt (upTo mappedOffset) s at ≡ fieldAt (mappedRange offsetRange) s at
+offset-field s at = field-same _ _ s at offset-test
 
-pub offset-field : (s : List ℕ) (at : ℕ) → fieldAt (upTo 4194271232) s at ≡ fieldAt (mappedRange offsetRange) s at
-offset-field = balanced-field 2097135615
+pub frequency-field : (s : List ℕ) (at : ℕ) → fieldAt (upTo mappedFrequency) s at ≡ fieldAt (mappedRange frequencyRange) s at
+frequency-field s at = field-same _ _ s at frequency-test
 
-pub frequency-field : (s : List ℕ) (at : ℕ) → fieldAt (upTo 3355443200) s at ≡ fieldAt (mappedRange frequencyRange) s at
-frequency-field = balanced-field 1677721599
-
-pub adjustment-field : (s : List ℕ) (at : ℕ) → fieldAt (fromTo (negsuc 168819711) 606074880) s at ≡ fieldAt (mappedRange adjustmentRange) s at
-adjustment-field s at = field-same _ _ s at (λ n. lopsided 168819711 303037440 n (lit< tt))
+pub adjustment-field : (s : List ℕ) (at : ℕ) → fieldAt (fromTo (negsuc 168819711) mappedAdjustment) s at ≡ fieldAt (mappedRange adjustmentRange) s at
+adjustment-field s at = field-same _ _ s at adjustment-test
 
 -- the second of the earlier update, tested by the largest one that the flag allows
 pub reftime-field : (s : List ℕ) (at flag : ℕ) {most : ℕ} → most ≡ lastReftime flag → fieldAt (upTo most) s at ≡ fieldAt (reftimeRange flag) s at

@@ -1,7 +1,5 @@
 -- `Records` has the theorems that specs/Properties.antt states; the others serve it and the proofs of the functions.
 pub mod Ranges
 pub mod FieldLaws
-pub mod Steps
 pub mod SavingLaws
-pub mod Chains
 pub mod Records

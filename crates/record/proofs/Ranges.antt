@@ -4,19 +4,20 @@ use mathlib.Core.Bool.{Bool, true, false, _&&_}
 use mathlib.Core.Logic.{⊎-elim}
 use Prim.Native.Nat.{ℕ, zero, suc, _*_, _/_, _%_, _≤_, _<_}
 use native.Mathlib.Omega.{arith}
-use lib.Dec.{leb, eqb, leb·suc-suc}
+use lib.Dec.{leb, eqb, leb·suc-suc, lit<}
 use lib.IntN.{ℤ, pos, negsuc}
 use mir.Syntax.{w32, w64}
 use mir.Val.{SFits}
 use borrow.Author.Tests.{leb-true, leb-false, le-leb, lt-leb, eqb-true, eqb-false, ne-eqb}
 use Rattle.number.specs.Mapping.{unmapped}
 use Rattle.number.proofs.Lists.{either}
-use Rattle.clock.specs.State.{lastSecond, phaseRange}
-use Rattle.record.specs.Reading.{reftimeRange}
-use Rattle.record.specs.Inner.{upTo, fromTo, betweenZ, lastReftime}
+use Rattle.number.specs.Layout.{mappedRange}
+use Rattle.clock.specs.State.{lastSecond, phaseRange, offsetRange, frequencyRange, adjustmentRange}
+use Rattle.record.specs.Layout.{reftimeRange}
+use Rattle.record.specs.Inner.{upTo, fromTo, betweenZ, mappedPhase, mappedOffset, mappedFrequency, mappedAdjustment, lastReftime}
 
 -- above -2^28 and below 2^28
-pub phase-bounds : (z : ℤ) → betweenZ (negsuc 268435454) (pos 268435455) z ≡ phaseRange z
+phase-bounds : (z : ℤ) → betweenZ (negsuc 268435454) (pos 268435455) z ≡ phaseRange z
 phase-bounds (pos n) = sym (leb·suc-suc n 268435455)
 phase-bounds (negsuc k) = ap (λ (b : Bool). b && true) (sym (leb·suc-suc k 268435454))
 
@@ -39,7 +40,7 @@ dropped true = refl
 dropped false = refl
 
 -- a range that is as wide below 0 as above it, tested on the mapped number
-pub balanced : (k n : ℕ) → upTo (2 * suc k) n ≡ betweenZ (negsuc k) (pos (suc k)) (unmapped n)
+balanced : (k n : ℕ) → upTo (2 * suc k) n ≡ betweenZ (negsuc k) (pos (suc k)) (unmapped n)
 unfolding unmapped
 balanced k n =
     ⊎-elim
@@ -52,7 +53,7 @@ balanced k n =
     (either (eqb (n % 2) 0))
 
 -- one that is less wide below 0: its least number is tested too
-pub lopsided : (k m n : ℕ) → k < m → fromTo (negsuc k) (2 * m) n ≡ betweenZ (negsuc k) (pos m) (unmapped n)
+lopsided : (k m n : ℕ) → k < m → fromTo (negsuc k) (2 * m) n ≡ betweenZ (negsuc k) (pos m) (unmapped n)
 unfolding unmapped
 lopsided k m n l =
     ⊎-elim
@@ -65,6 +66,18 @@ lopsided k m n l =
     by-least : (b : Bool) → leb (n / 2) k ≡ b → leb n (2 * m) && b ≡ b && true
     by-least true e = ap (λ (x : Bool). x && true) (le-leb n (2 * m) (omega (arith, leb-true (n / 2) k e)))
     by-least false e = dropped (leb n (2 * m))
+
+pub phase-test : (n : ℕ) → upTo mappedPhase n ≡ mappedRange phaseRange n
+phase-test n = balanced 268435454 n ∙ phase-bounds (unmapped n)
+
+pub offset-test : (n : ℕ) → upTo mappedOffset n ≡ mappedRange offsetRange n
+offset-test = balanced 2097135615
+
+pub frequency-test : (n : ℕ) → upTo mappedFrequency n ≡ mappedRange frequencyRange n
+frequency-test = balanced 1677721599
+
+pub adjustment-test : (n : ℕ) → fromTo (negsuc 168819711) mappedAdjustment n ≡ mappedRange adjustmentRange n
+adjustment-test n = lopsided 168819711 303037440 n (lit< tt)
 
 -- the second of the earlier update, by the flag
 flagged : (n : ℕ) → leb n lastSecond ≡ leb n lastSecond && true

@@ -1,20 +1,22 @@
 -- What the reader's private functions answer. No public promise names these.
-use mathlib.Core.List.{List}
-use Prim.Native.Nat.{ℕ}
+use Prim.Native.Nat.{ℕ, _*_, _-_}
 use lib.IntN.{ℤ}
 use mathlib.Core.Bool.{Bool, cond, _&&_}
 use lib.Dec.{leb, eqb}
 use lib.Signed.{leZ}
+use Rattle.number.specs.Layout.{Layout, whole}
 use Rattle.number.specs.Mapping.{unmapped}
 use Rattle.number.specs.Reading.{Found, number, refused}
-use Rattle.clock.specs.Units.{micros, offsetUnits, phaseUnits, frequencyUnits}
-use Rattle.clock.specs.State.{lastSecond, offsetRange, frequencyRange, adjustmentRange, constantRange}
+use Rattle.clock.specs.Units.{offsetUnitsPerMicro, phaseUnitsPerMicro}
+use Rattle.clock.specs.State.{lastSecond, greatestOffset, greatestFrequency}
 use Rattle.clock.specs.declared.state.Clock.{Clock}
-use Rattle.record.specs.Reading.{refusedWith, then, ended, timeFields, updateFields, errorFields}
-use Rattle.record.specs.Field.{fieldAt, mappedRange}
+use Rattle.record.specs.Layout.{timeFields, loopFields, rateFields, updateFields, errorFields, clockOf}
 use Rattle.record.specs.declared.field.Field.{Field}
 use Rattle.record.specs.declared.field.Field.the-variants as F
-use Rattle.record.specs.declared.restore.Restored.{Restored}
+use Rattle.record.specs.declared.groups.Time.{Time}
+use Rattle.record.specs.declared.groups.Loop.{Loop}
+use Rattle.record.specs.declared.groups.Rate.{Rate}
+use Rattle.record.specs.declared.groups.Update.{Update}
 
 -- what each case of a field reader's answer says
 abbrev pub toldField : Field → Found
@@ -33,136 +35,36 @@ betweenZ least most z = leZ least z && leZ z most
 abbrev pub fromTo : ℤ → ℕ → ℕ → Bool
 fromTo least most n = leb n most && leZ least (unmapped n)
 
--- the answer of a reading that a field ends
-abbrev pub refusedAs : Found → Restored
-refusedAs (number v next) = refusedWith 0
-refusedAs (refused n) = refusedWith n
+-- the greatest numbers that the signed fields are mapped to
+abbrev pub mappedPhase : ℕ
+mappedPhase = 2 * (phaseUnitsPerMicro - 1)
+
+abbrev pub mappedOffset : ℕ
+mappedOffset = 2 * (greatestOffset * offsetUnitsPerMicro)
+
+abbrev pub mappedFrequency : ℕ
+mappedFrequency = 2 * greatestFrequency
+
+abbrev pub mappedAdjustment : ℕ
+mappedAdjustment = 2 * 303037440
 
 -- the largest second of an earlier update
 abbrev pub lastReftime : ℕ → ℕ
 lastReftime flag = cond (eqb flag 1) lastSecond 0
 
--- ---- a clock with a group of its fields as a record holds them
+-- ---- a group of fields and those behind it, after the groups before it
 
-abbrev pub withTime : Clock → ℕ → ℕ → ℕ → Clock
-withTime c seconds us phase =
-    record {
-      seconds = seconds;
-      micros = micros us;
-      phase = phaseUnits (unmapped phase);
-      offset = c .offset;
-      frequency = c .frequency;
-      adjustment = c .adjustment;
-      constant = c .constant;
-      updated = c .updated;
-      reftime = c .reftime;
-      maxerror = c .maxerror;
-      esterror = c .esterror;
-      status = c .status;
-    }
+unfoldable pub fromErrors : Time → Loop → Rate → Update → Layout Clock
+fromErrors t l a u = errorFields (λ e. whole (clockOf t l a u e))
 
-abbrev pub withLoop : Clock → ℕ → ℕ → Clock
-withLoop c offset frequency =
-    record {
-      seconds = c .seconds;
-      micros = c .micros;
-      phase = c .phase;
-      offset = offsetUnits (unmapped offset);
-      frequency = frequencyUnits (unmapped frequency);
-      adjustment = c .adjustment;
-      constant = c .constant;
-      updated = c .updated;
-      reftime = c .reftime;
-      maxerror = c .maxerror;
-      esterror = c .esterror;
-      status = c .status;
-    }
+unfoldable pub fromUpdate : Time → Loop → Rate → Layout Clock
+fromUpdate t l a = updateFields (λ u. fromErrors t l a u)
 
-abbrev pub withRate : Clock → ℕ → ℕ → Clock
-withRate c adjustment constant =
-    record {
-      seconds = c .seconds;
-      micros = c .micros;
-      phase = c .phase;
-      offset = c .offset;
-      frequency = c .frequency;
-      adjustment = phaseUnits (unmapped adjustment);
-      constant = constant;
-      updated = c .updated;
-      reftime = c .reftime;
-      maxerror = c .maxerror;
-      esterror = c .esterror;
-      status = c .status;
-    }
+unfoldable pub fromRate : Time → Loop → Layout Clock
+fromRate t l = rateFields (λ a. fromUpdate t l a)
 
-abbrev pub withUpdate : Clock → ℕ → ℕ → Clock
-withUpdate c flag reftime =
-    record {
-      seconds = c .seconds;
-      micros = c .micros;
-      phase = c .phase;
-      offset = c .offset;
-      frequency = c .frequency;
-      adjustment = c .adjustment;
-      constant = c .constant;
-      updated = flag;
-      reftime = reftime;
-      maxerror = c .maxerror;
-      esterror = c .esterror;
-      status = c .status;
-    }
+unfoldable pub fromLoop : Time → Layout Clock
+fromLoop t = loopFields (λ l. fromRate t l)
 
-abbrev pub withErrors : Clock → ℕ → ℕ → ℕ → Clock
-withErrors c maxerror esterror status =
-    record {
-      seconds = c .seconds;
-      micros = c .micros;
-      phase = c .phase;
-      offset = c .offset;
-      frequency = c .frequency;
-      adjustment = c .adjustment;
-      constant = c .constant;
-      updated = c .updated;
-      reftime = c .reftime;
-      maxerror = micros maxerror;
-      esterror = micros esterror;
-      status = status;
-    }
-
--- ---- a group of fields and those behind it, on the clock c with the fields before it
-
-abbrev pub errorPart : List ℕ → ℕ → Clock → Restored
-errorPart s at c = errorFields s at (λ maxerror esterror status next. ended s next (withErrors c maxerror esterror status))
-
-unfoldable pub fromErrors : List ℕ → ℕ → Clock → Restored
-fromErrors s at c = errorPart s at c
-
-abbrev pub updatePart : List ℕ → ℕ → Clock → Restored
-updatePart s at c = updateFields s at (λ flag reftime next. fromErrors s next (withUpdate c flag reftime))
-
-unfoldable pub fromUpdate : List ℕ → ℕ → Clock → Restored
-fromUpdate s at c = updatePart s at c
-
-abbrev pub ratePart : List ℕ → ℕ → Clock → Restored
-ratePart s at c =
-    then (fieldAt (mappedRange adjustmentRange) s at) (λ adjustment n1.
-    then (fieldAt constantRange s n1) (λ constant n2.
-    fromUpdate s n2 (withRate c adjustment constant)))
-
-unfoldable pub fromRate : List ℕ → ℕ → Clock → Restored
-fromRate s at c = ratePart s at c
-
-abbrev pub loopPart : List ℕ → ℕ → Clock → Restored
-loopPart s at c =
-    then (fieldAt (mappedRange offsetRange) s at) (λ offset n1.
-    then (fieldAt (mappedRange frequencyRange) s n1) (λ frequency n2.
-    fromRate s n2 (withLoop c offset frequency)))
-
-unfoldable pub fromLoop : List ℕ → ℕ → Clock → Restored
-fromLoop s at c = loopPart s at c
-
-abbrev pub timePart : List ℕ → ℕ → Clock → Restored
-timePart s at c = timeFields s at (λ seconds us phase next. fromLoop s next (withTime c seconds us phase))
-
-unfoldable pub fromTime : List ℕ → ℕ → Clock → Restored
-fromTime s at c = timePart s at c
+unfoldable pub fromTime : Layout Clock
+fromTime = timeFields (λ t. fromLoop t)

@@ -1,12 +1,21 @@
--- What a saved record holds. Document 01, "Saved record": "Thirteen numbers: version 1, then the table's fields in its order (earlier
--- update is two)." A record of another version changes this file, and `Reading` where its fields are read.
-use mathlib.Core.Bool.{Bool}
+-- What a saved record holds: the fields in their order, the numbers and the bytes of a clock. Document 01, "Saved record": "Thirteen
+-- numbers: version 1, then the table's fields in its order (earlier update is two)." "Phase, offset left, frequency and adjustment are
+-- first mapped." A record of another version changes this file alone.
+use mathlib.Core.Bool.{Bool, _&&_}
 use mathlib.Core.List.{List, [], _∷_}
 use Prim.Native.Nat.{ℕ}
 use lib.Dec.{eqb}
 use Rattle.number.specs.Form.{bytesOfAll}
-use Rattle.number.specs.Mapping.{mapped}
+use Rattle.number.specs.Layout.{Layout, field, whole, mappedRange}
+use Rattle.number.specs.Mapping.{mapped, unmapped}
+use Rattle.clock.specs.Units.{micros, offsetUnits, phaseUnits, frequencyUnits}
+use Rattle.clock.specs.State.{secondRange, microsRange, phaseRange, offsetRange, frequencyRange, adjustmentRange, constantRange, flagRange, zeroUnlessFlag, errorRange, statusRange}
 use Rattle.clock.specs.declared.state.Clock.{Clock}
+use Rattle.record.specs.declared.groups.Time.{Time}
+use Rattle.record.specs.declared.groups.Loop.{Loop}
+use Rattle.record.specs.declared.groups.Rate.{Rate}
+use Rattle.record.specs.declared.groups.Update.{Update}
+use Rattle.record.specs.declared.groups.Errors.{Errors}
 
 -- the version that is written
 abbrev pub version : ℕ
@@ -16,7 +25,8 @@ version = 1
 abbrev pub knownVersion : ℕ → Bool
 knownVersion n = eqb n version
 
--- the numbers. "Phase, offset left, frequency and adjustment are first mapped."
+-- ---- the numbers of a clock
+
 unfoldable pub numbersOf : Clock → List ℕ
 numbersOf c =
     version
@@ -37,3 +47,75 @@ numbersOf c =
 -- the record of a clock: the bytes of its numbers, one after the other
 unfoldable pub recordOf : Clock → List ℕ
 recordOf c = bytesOfAll (numbersOf c)
+
+-- ---- the fields, by groups of two or three: what has been read of each, and what follows it
+
+-- seconds, microseconds, phase
+abbrev pub timeFields : (Time → Layout Clock) → Layout Clock
+timeFields rest =
+    field secondRange (λ seconds.
+    field microsRange (λ us.
+    field (mappedRange phaseRange) (λ phase.
+    rest (record { seconds = seconds; micros = us; phase = phase }))))
+
+-- offset left, frequency
+abbrev pub loopFields : (Loop → Layout Clock) → Layout Clock
+loopFields rest =
+    field (mappedRange offsetRange) (λ offset.
+    field (mappedRange frequencyRange) (λ frequency.
+    rest (record { offset = offset; frequency = frequency })))
+
+-- adjustment per tick, time constant
+abbrev pub rateFields : (Rate → Layout Clock) → Layout Clock
+rateFields rest =
+    field (mappedRange adjustmentRange) (λ adjustment.
+    field constantRange (λ constant.
+    rest (record { adjustment = adjustment; constant = constant })))
+
+-- the second of the earlier update: "0 if flag 0"
+abbrev pub reftimeRange : ℕ → ℕ → Bool
+reftimeRange flag n = secondRange n && zeroUnlessFlag flag n
+
+-- earlier update: flag, its second
+abbrev pub updateFields : (Update → Layout Clock) → Layout Clock
+updateFields rest =
+    field flagRange (λ flag.
+    field (reftimeRange flag) (λ reftime.
+    rest (record { updated = flag; reftime = reftime })))
+
+-- maximum error, estimated error, status
+abbrev pub errorFields : (Errors → Layout Clock) → Layout Clock
+errorFields rest =
+    field errorRange (λ maxerror.
+    field errorRange (λ esterror.
+    field statusRange (λ status.
+    rest (record { maxerror = maxerror; esterror = esterror; status = status }))))
+
+-- the clock that the numbers stand for
+abbrev pub clockOf : Time → Loop → Rate → Update → Errors → Clock
+clockOf t l a u e =
+    record {
+      seconds = t .seconds;
+      micros = micros (t .micros);
+      phase = phaseUnits (unmapped (t .phase));
+      offset = offsetUnits (unmapped (l .offset));
+      frequency = frequencyUnits (unmapped (l .frequency));
+      adjustment = phaseUnits (unmapped (a .adjustment));
+      constant = a .constant;
+      updated = u .updated;
+      reftime = u .reftime;
+      maxerror = micros (e .maxerror);
+      esterror = micros (e .esterror);
+      status = e .status;
+    }
+
+-- "version 1, then the table's fields in its order"
+unfoldable pub recordLayout : Layout Clock
+recordLayout =
+    field knownVersion (λ version.
+    timeFields (λ t.
+    loopFields (λ l.
+    rateFields (λ a.
+    updateFields (λ u.
+    errorFields (λ e.
+    whole (clockOf t l a u e)))))))

@@ -1,6 +1,5 @@
 -- Document 01's "Saved record", and the refusals of its reader and writer.
 pub mod Layout
-pub mod Field
 pub mod Reading
 pub mod Saving
 pub mod Inner

@@ -1,10 +1,12 @@
 -- Writing a record into a lent buffer. Document 01: "a writer checks 1, then 14"; "The writer fills the first bytes of the buffer and
 -- leaves the later ones."; a refused call hands every lent buffer back unchanged.
+use mathlib.Core.Path.{_≡_}
 use mathlib.Core.Bool.{cond, not}
 use mathlib.Core.List.{List, _++_}
 use Prim.Native.Nat.{ℕ}
 use lib.Dec.{ltb, eqb}
 use lib.ListN.{length, drop}
+use Rattle.number.specs.Writing.{Counts}
 use Rattle.clock.specs.State.{inRange}
 use Rattle.clock.specs.Refusal.{refuse}
 use Rattle.clock.specs.declared.state.Clock.{Clock}
@@ -23,3 +25,9 @@ savingOf c buf =
 -- the buffer afterwards: the record in its first bytes, the later ones as they were; refused, all of it as it was
 unfoldable pub bufferAfter : Clock → List ℕ → List ℕ
 bufferAfter c buf = cond (eqb (savingRefusal c buf) 0) (recordOf c ++ drop (length (recordOf c)) buf) buf
+
+-- what a write promises: its answer, the buffer afterwards, and what a caller needs of them to go on with `&buf[..length]`
+pub record Saves (c : Clock) (buf after : List ℕ) (r : Saved) : Type 0 where
+  pub answer : r ≡ savingOf c buf
+  pub buffer : after ≡ bufferAfter c buf
+  pub counts : Counts buf after (r .length)

@@ -1,11 +1,11 @@
 // One field of a record: a number at a place, and its range.
 ghost use mathlib.Core.Path.{_≡_};
+ghost use Rattle.number.specs.Layout.{fieldAt};
 ghost use Rattle.number.specs.Mapping.{unmapped};
-ghost use Rattle.record.specs.Field.{fieldAt};
 ghost use Rattle.record.specs.Inner.{toldField, upTo, fromTo};
 ghost use Rattle.record.specs.Layout.{knownVersion};
 use crate::layout::VERSION;
-use number::decode::Decoded;
+use number::Decoded;
 
 // What reading a field gives: its number, which is in its range, and the place after it; or the refusal, 10, 11 or 12.
 // A signed field's number is the one that it is mapped to.
@@ -18,7 +18,7 @@ pub(crate) enum Field {
 pub(crate) fn version(bytes: &[u8]) -> Field
     ensures { λ r. ⌜ toldField r ≡ fieldAt knownVersion (now (bytes .entry)) 0 ⌝ }
 {
-    match number::decode::read(bytes, 0) {
+    match number::read(bytes, 0) {
         Decoded::Refused(n) => Field::Refused(n),
         Decoded::Value { value, next } => {
             if value == VERSION as u64 {
@@ -33,7 +33,7 @@ pub(crate) fn version(bytes: &[u8]) -> Field
 pub(crate) fn plain(bytes: &[u8], at: usize, most: u32) -> Field
     ensures { λ r. ⌜ toldField r ≡ fieldAt (upTo most) (now (bytes .entry)) at ⌝ }
 {
-    match number::decode::read(bytes, at) {
+    match number::read(bytes, at) {
         Decoded::Refused(n) => Field::Refused(n),
         Decoded::Value { value, next } => {
             if value <= most as u64 {
@@ -48,7 +48,7 @@ pub(crate) fn plain(bytes: &[u8], at: usize, most: u32) -> Field
 pub(crate) fn signed(bytes: &[u8], at: usize, least: i32, most: u32) -> Field
     ensures { λ r. ⌜ toldField r ≡ fieldAt (fromTo least most) (now (bytes .entry)) at ⌝ }
 {
-    match number::decode::read(bytes, at) {
+    match number::read(bytes, at) {
         Decoded::Refused(n) => Field::Refused(n),
         Decoded::Value { value, next } => {
             if (most as u64) < value {
@@ -67,5 +67,5 @@ pub(crate) fn signed(bytes: &[u8], at: usize, least: i32, most: u32) -> Field
 pub(crate) fn unmapped_of(n: u32) -> i32
     ensures { λ r. ⌜ r ≡ unmapped n ⌝ }
 {
-    number::zigzag::unmap(n as u64) as i32
+    number::unmap(n as u64) as i32
 }

@@ -12,14 +12,17 @@ fn wide(x: u8) -> u32
     x as u32
 }
 
-// The thirteen numbers of a clock's record.
-pub(crate) fn numbers(c: Clock) -> [u32; 13]
+// How many numbers a record has.
+pub(crate) const NUMBERS: usize = 13;
+
+// The numbers of a clock's record.
+pub(crate) fn numbers(c: Clock) -> [u32; NUMBERS]
     ensures { λ r. ⌜ r ≡ numbersOf c ⌝ }
 {
-    let phase = number::zigzag::map(c.phase.0);
-    let offset = number::zigzag::map(c.offset.0);
-    let frequency = number::zigzag::map(c.frequency.0);
-    let adjustment = number::zigzag::map(c.adjustment.0);
+    let phase = number::map(c.phase.0);
+    let offset = number::map(c.offset.0);
+    let frequency = number::map(c.frequency.0);
+    let adjustment = number::map(c.adjustment.0);
     [
         VERSION,
         c.seconds,

@@ -1,16 +1,19 @@
 // Reading a clock's record.
 ghost use mathlib.Core.Path.{_≡_};
-ghost use Rattle.record.specs.Reading.{readingOf, refusedWith};
-ghost use Rattle.record.specs.Inner.{toldField, refusedAs, lastReftime, fromTime, fromLoop, fromRate, fromUpdate, fromErrors};
-use crate::assemble::with_errors;
-use crate::assemble::with_loop;
-use crate::assemble::with_rate;
-use crate::assemble::with_time;
-use crate::assemble::with_update;
+ghost use Rattle.number.specs.Layout.{whole, readFrom};
+ghost use Rattle.record.specs.Reading.{restored, readingOf, refusedWith};
+ghost use Rattle.number.specs.Inner.{refusedAs};
+ghost use Rattle.record.specs.Inner.{toldField, lastReftime, fromTime, fromLoop, fromRate, fromUpdate, fromErrors};
 use crate::field::Field;
 use crate::field::plain;
 use crate::field::signed;
 use crate::field::version;
+use crate::groups::Errors;
+use crate::groups::Loop;
+use crate::groups::Rate;
+use crate::groups::Time;
+use crate::groups::Update;
+use crate::groups::clock_of;
 use clock::device::RECORDER;
 use clock::state::Clock;
 use clock::state::LAST_MICRO;
@@ -50,11 +53,11 @@ fn refused_with(n: u8) -> Restored
 
 // The answer of a reading that this field ends.
 fn refused(d: Field) -> Restored
-    ensures { λ r. ⌜ r ≡ refusedAs (toldField d) ⌝ }
+    ensures { λ r. ⌜ r ≡ refusedAs refusedWith (toldField d) ⌝ }
 {
     match d {
         Field::Refused(n) => refused_with(n),
-        Field::Value(_, _) => refused_with(0),
+        Field::Value(_, _) => refused_with(12),
     }
 }
 
@@ -73,15 +76,15 @@ pub fn read(bytes: &[u8]) -> Restored
     let Field::Value(_, n0) = d0 else {
         return refused(d0);
     };
-    time_fields(bytes, n0, fresh())
+    time_fields(bytes, n0)
 }
 
-// Each group of fields takes the clock with the fields before it, and hands it on to the next. The groups are small: a call behind more
+// Each group of fields takes what was read before it, and hands it on to the next with its own. The groups are small: a call behind more
 // than three fields that may be refused is taken for one that is seldom made, and not inlined.
 
 // Seconds, microseconds and phase.
-fn time_fields(bytes: &[u8], at: usize, c: Clock) -> Restored
-    ensures { λ r. ⌜ r ≡ fromTime (now (bytes .entry)) at c ⌝ }
+fn time_fields(bytes: &[u8], at: usize) -> Restored
+    ensures { λ r. ⌜ r ≡ restored (readFrom fromTime (now (bytes .entry)) at) ⌝ }
 {
     let d1 = plain(bytes, at, LAST_SECOND);
     let Field::Value(seconds, n1) = d1 else {
@@ -95,75 +98,107 @@ fn time_fields(bytes: &[u8], at: usize, c: Clock) -> Restored
     let Field::Value(phase, n3) = d3 else {
         return refused(d3);
     };
-    loop_fields(bytes, n3, with_time(c, seconds, micros, phase))
+    let t = Time {
+        seconds: seconds,
+        micros: micros,
+        phase: phase,
+    };
+    loop_fields(bytes, n3, t)
 }
 
 // Offset left and frequency.
-fn loop_fields(bytes: &[u8], at: usize, c: Clock) -> Restored
-    ensures { λ r. ⌜ r ≡ fromLoop (now (bytes .entry)) at c ⌝ }
+fn loop_fields(bytes: &[u8], at: usize, t: Time) -> Restored
+    ensures { λ r. ⌜ r ≡ restored (readFrom (fromLoop t) (now (bytes .entry)) at) ⌝ }
 {
-    let d4 = plain(bytes, at, MAPPED_OFFSET);
-    let Field::Value(offset, n4) = d4 else {
-        return refused(d4);
+    let d1 = plain(bytes, at, MAPPED_OFFSET);
+    let Field::Value(offset, n1) = d1 else {
+        return refused(d1);
     };
-    let d5 = plain(bytes, n4, MAPPED_FREQUENCY);
-    let Field::Value(frequency, n5) = d5 else {
-        return refused(d5);
+    let d2 = plain(bytes, n1, MAPPED_FREQUENCY);
+    let Field::Value(frequency, n2) = d2 else {
+        return refused(d2);
     };
-    rate_fields(bytes, n5, with_loop(c, offset, frequency))
+    let l = Loop {
+        offset: offset,
+        frequency: frequency,
+    };
+    rate_fields(bytes, n2, t, l)
 }
 
 // Adjustment and time constant.
-fn rate_fields(bytes: &[u8], at: usize, c: Clock) -> Restored
-    ensures { λ r. ⌜ r ≡ fromRate (now (bytes .entry)) at c ⌝ }
+fn rate_fields(bytes: &[u8], at: usize, t: Time, l: Loop) -> Restored
+    ensures { λ r. ⌜ r ≡ restored (readFrom (fromRate t l) (now (bytes .entry)) at) ⌝ }
 {
-    let d6 = signed(bytes, at, RECORDER.least.0, MAPPED_ADJUSTMENT);
-    let Field::Value(adjustment, n6) = d6 else {
-        return refused(d6);
+    let d1 = signed(bytes, at, RECORDER.least.0, MAPPED_ADJUSTMENT);
+    let Field::Value(adjustment, n1) = d1 else {
+        return refused(d1);
     };
-    let d7 = plain(bytes, n6, MAX_CONSTANT as u32);
-    let Field::Value(constant, n7) = d7 else {
-        return refused(d7);
+    let d2 = plain(bytes, n1, MAX_CONSTANT as u32);
+    let Field::Value(constant, n2) = d2 else {
+        return refused(d2);
     };
-    update_fields(bytes, n7, with_rate(c, adjustment, constant as u8))
+    let constant = constant as u8;
+    let a = Rate {
+        adjustment: adjustment,
+        constant: constant,
+    };
+    update_fields(bytes, n2, t, l, a)
 }
 
 // The earlier update: its flag and its second.
-fn update_fields(bytes: &[u8], at: usize, c: Clock) -> Restored
-    ensures { λ r. ⌜ r ≡ fromUpdate (now (bytes .entry)) at c ⌝ }
+fn update_fields(bytes: &[u8], at: usize, t: Time, l: Loop, a: Rate) -> Restored
+    ensures { λ r. ⌜ r ≡ restored (readFrom (fromUpdate t l a) (now (bytes .entry)) at) ⌝ }
 {
-    let d8 = plain(bytes, at, 1);
-    let Field::Value(updated, n8) = d8 else {
-        return refused(d8);
+    let d1 = plain(bytes, at, 1);
+    let Field::Value(updated, n1) = d1 else {
+        return refused(d1);
     };
-    let d9 = plain(bytes, n8, last_reftime(updated));
-    let Field::Value(reftime, n9) = d9 else {
-        return refused(d9);
+    let d2 = plain(bytes, n1, last_reftime(updated));
+    let Field::Value(reftime, n2) = d2 else {
+        return refused(d2);
     };
-    error_fields(bytes, n9, with_update(c, updated as u8, reftime))
+    let updated = updated as u8;
+    let u = Update {
+        updated: updated,
+        reftime: reftime,
+    };
+    error_fields(bytes, n2, t, l, a, u)
 }
 
 // Both errors and the status, which are the last.
-fn error_fields(bytes: &[u8], at: usize, c: Clock) -> Restored
-    ensures { λ r. ⌜ r ≡ fromErrors (now (bytes .entry)) at c ⌝ }
+fn error_fields(bytes: &[u8], at: usize, t: Time, l: Loop, a: Rate, u: Update) -> Restored
+    ensures { λ r. ⌜ r ≡ restored (readFrom (fromErrors t l a u) (now (bytes .entry)) at) ⌝ }
 {
-    let d10 = plain(bytes, at, MAX_ERROR);
-    let Field::Value(maxerror, n10) = d10 else {
-        return refused(d10);
+    let d1 = plain(bytes, at, MAX_ERROR);
+    let Field::Value(maxerror, n1) = d1 else {
+        return refused(d1);
     };
-    let d11 = plain(bytes, n10, MAX_ERROR);
-    let Field::Value(esterror, n11) = d11 else {
-        return refused(d11);
+    let d2 = plain(bytes, n1, MAX_ERROR);
+    let Field::Value(esterror, n2) = d2 else {
+        return refused(d2);
     };
-    let d12 = plain(bytes, n11, TIME_BAD as u32);
-    let Field::Value(status, n12) = d12 else {
-        return refused(d12);
+    let d3 = plain(bytes, n2, TIME_BAD as u32);
+    let Field::Value(status, n3) = d3 else {
+        return refused(d3);
     };
-    if n12 < bytes.len() {
+    let status = status as u8;
+    let e = Errors {
+        maxerror: maxerror,
+        esterror: esterror,
+        status: status,
+    };
+    finished(bytes, n3, clock_of(t, l, a, u, e))
+}
+
+// After the last field: nothing may follow.
+fn finished(bytes: &[u8], at: usize, c: Clock) -> Restored
+    ensures { λ r. ⌜ r ≡ restored (readFrom (whole c) (now (bytes .entry)) at) ⌝ }
+{
+    if at < bytes.len() {
         return refused_with(13);
     }
     Restored {
         refusal: 0,
-        clock: with_errors(c, maxerror, esterror, status as u8),
+        clock: c,
     }
 }

@@ -1,9 +1,12 @@
 // Writing a clock's record.
-ghost use mathlib.Core.Path.{_≡_};
-ghost use Rattle.record.specs.Saving.{savingOf, bufferAfter};
+ghost use Rattle.record.specs.Saving.{Saves};
+use crate::layout::NUMBERS;
 use crate::layout::numbers;
 use clock::state::Clock;
 use clock::state::in_range;
+
+// No number has more than five bytes: there is room for every record.
+const ROOM: usize = 5 * NUMBERS;
 
 // The answer of a write: refusal 0 and how many bytes the record has, or refusal 1 or 14 and 0.
 pub struct Saved {
@@ -13,7 +16,7 @@ pub struct Saved {
 
 // Writes the record of c into the buffer's first bytes; the later ones stay. A refused write leaves all of them.
 pub fn write(c: Clock, buf: &mut [u8]) -> Saved
-    ensures { λ r. ⌜ (r ≡ savingOf c (now (buf .entry))) × (now (buf .exit) ≡ bufferAfter c (now (buf .entry))) ⌝ }
+    ensures { λ r. ⌜ Saves c (now (buf .entry)) (now (buf .exit)) r ⌝ }
 {
     if !in_range(c) {
         return Saved {
@@ -22,9 +25,9 @@ pub fn write(c: Clock, buf: &mut [u8]) -> Saved
         };
     }
     let ns = numbers(c);
-    // Thirteen numbers have 65 bytes at most: there is room for them here, and they are written before they are counted.
-    let mut text = [0u8; 65];
-    let w = number::encode::write_all(&mut text, 0, &ns);
+    // They are written before they are counted.
+    let mut text = [0u8; ROOM];
+    let w = number::write_all(&mut text, 0, &ns);
     let n = w.next;
     if buf.len() < n {
         return Saved {

@@ -6,8 +6,9 @@ use Prim.Native.Nat.{ℕ, zero, suc, _+_, _*_, _-_, _%_, _^_, _<_, _≤_}
 use native.Mathlib.Nat.{mul-add, mul-assoc, add-assoc, pow-succ', one-le-pow, le-mul-of-pos-right, mul-le-mul-left}
 use native.Mathlib.Omega.{arith}
 use borrow.Author.Needs.{needs}
+use Rattle.number.specs.Form.{limit}
 use Rattle.number.specs.Reading.{Found, number, refused}
-use Rattle.number.specs.Later.{laterAt, onto}
+use Rattle.number.specs.Inner.{laterAt, onto}
 use Rattle.number.proofs.Steps.{before, later-none, later-zero, later-last, later-more, later-no-more}
 use Rattle.number.proofs.decode.read_long.Statement.{statement}
 use Rattle.number.proofs.decode.read_long.Tie as tie
@@ -28,14 +29,14 @@ none-left : (s : List ℕ) (p left : ℕ) → left ≤ 0 → laterAt left s p �
 none-left s p left h = ap (λ (f : ℕ). laterAt f s p) (omega arith) ∙ later-no-more s p
 
 -- the scale, while bytes may still be read
-scale-small : (left scale : ℕ) → 0 < left → scale * 128 ^ left ≡ 2 ^ 35 → scale ≤ 2 ^ 28
+scale-small : (left scale : ℕ) → 0 < left → scale * 128 ^ left ≡ limit → scale ≤ 2 ^ 28
 scale-small zero scale h e = absurd (omega arith)
 scale-small (suc f) scale h e =
     let w : scale * 128 ^ suc f ≡ scale * 128 * 128 ^ f = ap (λ (m : ℕ). scale * m) (pow-succ' 128 f) ∙ sym (mul-assoc scale 128 (128 ^ f)) in
     let p : scale * 128 ≤ scale * 128 * 128 ^ f = le-mul-of-pos-right (scale * 128) (one-le-pow f 128 (omega arith)) in
     omega arith
 
-scale-next : (left scale : ℕ) → 0 < left → scale * 128 ^ left ≡ 2 ^ 35 → scale * 128 * 128 ^ (left - 1) ≡ 2 ^ 35
+scale-next : (left scale : ℕ) → 0 < left → scale * 128 ^ left ≡ limit → scale * 128 * 128 ^ (left - 1) ≡ limit
 scale-next zero scale h e = absurd (omega arith)
 scale-next (suc f) scale h e =
     mul-assoc scale 128 (128 ^ (suc f - 1)) ∙ ap (λ (k : ℕ). scale * (128 * 128 ^ k)) (omega arith) ∙ ap (λ (m : ℕ). scale * m) (sym (pow-succ' 128 f)) ∙ e
@@ -50,7 +51,7 @@ group scale b h l = ap (λ (m : ℕ). scale * m) (omega arith) ∙ mul-add scale
 
 abbrev Inv-loop : tie.InvT-loop
 Inv-loop s at low n sum₀ scale₀ p₀ left₀ sum scale p left =
-    (onto low 16384 (laterAt 3 s at) ≡ onto sum scale (laterAt left s p)) × ((scale * 128 ^ left ≡ 2 ^ 35) × (sum < scale))
+    (onto low 16384 (laterAt 3 s at) ≡ onto sum scale (laterAt left s p)) × ((scale * 128 ^ left ≡ limit) × (sum < scale))
 
 abbrev μ-loop : tie.MeasureT-loop
 μ-loop s at low n sum₀ scale₀ p₀ left₀ sum scale p left = left

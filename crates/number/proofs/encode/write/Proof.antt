@@ -1,11 +1,10 @@
 -- `number::encode::write` meets its contract: the two tests decide whether there is room.
-use mathlib.Core.Path.{_∙_}
 use Prim.Native.Nat.{_+_, _<_, _≤_}
 use native.Mathlib.Omega.{arith}
 use lib.ListN.{length}
 use borrow.Author.Needs.{needs}
 use Rattle.number.specs.Form.{bytesOf}
-use Rattle.number.proofs.Buffer.{filled-sets, filled-short, answered-room, answered-short}
+use Rattle.number.proofs.Buffer.{writes-room, writes-short}
 use Rattle.number.proofs.encode.write.Statement.{statement}
 use Rattle.number.proofs.encode.write.Tie as tie
 
@@ -16,13 +15,13 @@ returns : tie.Need-returns
 returns c =
     let a = c .before .before .before .args in
     let h : length (a .buf .now) < a .at + length (bytesOf (a .n)) = omega arith in
-    (answered-short _ _ _ h, filled-short _ _ _ h)
+    writes-short _ _ _ h
 
 returns-2 : tie.Need-returns-2
 returns-2 c =
     let a = c .before .before .before .before .args in
     let h : length (a .buf .now) < a .at + length (bytesOf (a .n)) = omega arith in
-    (answered-short _ _ _ h, filled-short _ _ _ h)
+    writes-short _ _ _ h
 
 place-requires : tie.Need-place-requires
 place-requires c κs = search needs
@@ -35,7 +34,7 @@ returns-3 c =
     let p = c .before .before in
     let a = p .before .before .before .before .before .before .args in
     let h : a .at + length (bytesOf (a .n)) ≤ length (a .buf .now) = omega arith in
-    (rw (p .place .ensures .0) (answered-room _ _ _ h), p .place .ensures .1 ∙ filled-sets _ _ _ h)
+    writes-room _ _ _ h (p .place .ensures .0) (p .place .ensures .1)
 
 pub write-spec : {M : Type 1} → statement M
 write-spec =

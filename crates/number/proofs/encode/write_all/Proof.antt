@@ -6,7 +6,7 @@ use lib.ListN.{length}
 use borrow.Author.Needs.{needs}
 use borrow.Author.Tests.{leb-true, leb-false}
 use Rattle.number.specs.Form.{bytesOfAll}
-use Rattle.number.proofs.Buffer.{filled-sets, filled-short, answered-room, answered-short}
+use Rattle.number.proofs.Buffer.{writes-room, writes-short}
 use Rattle.number.proofs.encode.write_all.Statement.{statement}
 use Rattle.number.proofs.encode.write_all.Tie as tie
 
@@ -22,7 +22,7 @@ returns : tie.Need-returns
 returns c =
     let a = c .before .before .before .args in
     let h : length (a .buf .now) < a .at + length (bytesOfAll (a .ns .now)) = omega arith in
-    (answered-short _ _ _ h, filled-short _ _ _ h)
+    writes-short _ _ _ h
 
 fit-in-requires : tie.Need-fit-in-requires
 fit-in-requires c κs = search needs
@@ -37,14 +37,14 @@ returns-2 : tie.Need-returns-2
 returns-2 c =
     let p = c .before .before in
     let h = enough (p .before .before) in
-    (rw (p .place-all .ensures .0) (answered-room _ _ _ h), p .place-all .ensures .1 ∙ filled-sets _ _ _ h)
+    writes-room _ _ _ h (p .place-all .ensures .0) (p .place-all .ensures .1)
 
 returns-3 : tie.Need-returns-3
 returns-3 c =
     let a = c .before .before .before .before .before .args in
     let f = leb-false (length (bytesOfAll (a .ns .now))) (length (a .buf .now) - a .at) (sym (c .before .fit-in .ensures) ∙ c .if2 .left) in
     let h : length (a .buf .now) < a .at + length (bytesOfAll (a .ns .now)) = omega (arith, f) in
-    (answered-short _ _ _ h, filled-short _ _ _ h)
+    writes-short _ _ _ h
 
 pub write-all-spec : {M : Type 1} → statement M
 write-all-spec =

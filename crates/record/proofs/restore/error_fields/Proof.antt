@@ -1,54 +1,61 @@
--- `record::restore::error_fields` meets its contract. Before each field a law says where the reading stands; a field that was read
--- takes it to the next, and one that was refused ends it.
+-- `record::restore::error_fields` meets its contract. Before each field a law says where the reading stands; a field that was read takes
+-- it to the next, and one that was refused ends it.
 use borrow.Author.Needs.{needs}
-use mathlib.Core.Path.{_≡_, refl, _∙_, ap}
+use mathlib.Core.Path.{_≡_, refl, sym, _∙_, ap}
 use mathlib.Core.List.{List}
 use Prim.Native.Nat.{ℕ}
 use lib.Dec.{lit<}
-use Rattle.clock.specs.declared.state.Clock.{Clock}
-use Rattle.record.specs.Reading.{accepted}
-use Rattle.record.specs.Inner.{upTo, errorPart, fromErrors}
+use Rattle.number.specs.Layout.{whole, readFrom}
+use Rattle.number.proofs.Layouts.{AtField, field-went, field-stopped}
+use Rattle.record.specs.Layout.{errorFields, clockOf}
+use Rattle.record.specs.Reading.{restored}
+use Rattle.record.specs.Inner.{toldField, upTo, fromErrors}
+use Rattle.record.specs.declared.groups.Time.{Time}
+use Rattle.record.specs.declared.groups.Loop.{Loop}
+use Rattle.record.specs.declared.groups.Rate.{Rate}
+use Rattle.record.specs.declared.groups.Update.{Update}
 use Rattle.record.proofs.Ranges.{byte}
 use Rattle.record.proofs.FieldLaws.{read-in}
-use Rattle.record.proofs.Steps.{Before, AtEnd, went, stopped, ended-more, ended-whole}
 use Rattle.record.proofs.restore.error_fields.Statement.{statement}
 use Rattle.record.proofs.restore.error_fields.Tie as tie
 
-opened : (s : List ℕ) (at : ℕ) (c : Clock) → fromErrors s at c ≡ errorPart s at c
+opened : (t : Time) (l : Loop) (a : Rate) (u : Update) (s : List ℕ) (at : ℕ) → restored (readFrom (fromErrors t l a u) s at) ≡ restored (readFrom (errorFields (λ e. whole (clockOf t l a u e))) s at)
 unfolding fromErrors
-opened s at c = refl
+opened t l a u s at = refl
 
-abbrev b10 : tie.After-shared-slice-known → Before
-b10 c = record { all = _; field = _; rest = _; is = opened (c .before .args .bytes .now) (c .before .args .at) (c .before .args .c) }
+abbrev at-maxerror : tie.After-shared-slice-known → AtField restored
+at-maxerror c =
+    let i = c .before .args in
+    record { all = _; range = _; rest = _; bytes = _; at = _; is = opened (i .t) (i .l) (i .a) (i .u) (i .bytes .now) (i .at) }
 
-abbrev b11 : tie.After-known-told → Before
-b11 c = record { all = _; field = _; rest = _; is = went (b10 (c .before .before .before .before)) (c .before .before .before .plain .ensures) (c .before .d10 .given .1) }
+abbrev at-esterror : tie.After-known-told → AtField restored
+at-esterror c =
+    record { all = _; range = _; rest = _; bytes = _; at = _; is = field-went (at-maxerror (c .before .before .before .before)) (c .before .before .before .plain .ensures) (ap toldField (c .before .d1 .given .1)) }
 
-abbrev b12 : tie.After-known-told2 → Before
-b12 c = record { all = _; field = _; rest = _; is = went (b11 (c .before .before .before .before)) (c .before .before .before .plain2 .ensures) (c .before .d11 .given .1) }
-
-abbrev b13 : tie.After-known-told3 → AtEnd
-b13 c = record { all = _; bytes = _; at = _; clock = _; is = went (b12 (c .before .before .before .before)) (c .before .before .before .plain3 .ensures) (c .before .d12 .given .1) }
+abbrev at-status : tie.After-known-told2 → AtField restored
+at-status c =
+    record { all = _; range = _; rest = _; bytes = _; at = _; is = field-went (at-esterror (c .before .before .before .before)) (c .before .before .before .plain2 .ensures) (ap toldField (c .before .d2 .given .1)) }
 
 returns : tie.Need-returns
-returns c = stopped (b10 (c .before .before .before .before)) (c .before .before .before .plain .ensures) (c .before .enum-told .given .1) (c .refused .ensures)
+returns c = field-stopped (at-maxerror (c .before .before .before .before)) (c .before .before .before .plain .ensures) (ap toldField (c .before .enum-told .given .1)) (c .refused .ensures)
 
 returns-2 : tie.Need-returns-2
-returns-2 c = stopped (b11 (c .before .before .before .before)) (c .before .before .before .plain2 .ensures) (c .before .enum-told2 .given .1) (c .refused2 .ensures)
+returns-2 c = field-stopped (at-esterror (c .before .before .before .before)) (c .before .before .before .plain2 .ensures) (ap toldField (c .before .enum-told2 .given .1)) (c .refused2 .ensures)
 
 returns-3 : tie.Need-returns-3
-returns-3 c = stopped (b12 (c .before .before .before .before)) (c .before .before .before .plain3 .ensures) (c .before .enum-told3 .given .1) (c .refused3 .ensures)
+returns-3 c = field-stopped (at-status (c .before .before .before .before)) (c .before .before .before .plain3 .ensures) (ap toldField (c .before .enum-told3 .given .1)) (c .refused3 .ensures)
+
+cast-status : tie.Need-cast-status
+cast-status c =
+    let d = c in
+    record { fits = byte 4 (lit< tt) (read-in (upTo 4) _ _ (d .before .before .before .plain3 .ensures) (d .before .d3 .given .1)) }
 
 returns-4 : tie.Need-returns-4
-returns-4 c = c .refused-with .ensures ∙ ended-more (b13 (c .before .before)) (c .before .if1 .taken)
-
-cast-with-errors : tie.Need-cast-with-errors
-cast-with-errors c =
-    let d = c .before in
-    record { fits = byte 4 (lit< tt) (read-in (upTo 4) _ _ (d .before .before .before .plain3 .ensures) (d .before .d12 .given .1)) }
-
-returns-5 : tie.Need-returns-5
-returns-5 c = ap accepted (c .with-errors .ensures) ∙ ended-whole (b13 (c .before .before)) (c .before .if1 .left)
+returns-4 c =
+    let d = c .before .before in
+    c .finished .ensures
+    ∙ rw (c .before .clock-of .ensures)
+    (sym (field-went (at-status (d .before .before .before .before)) (d .before .before .before .plain3 .ensures) (ap toldField (d .before .d3 .given .1))))
 
 pub error-fields-spec : {M : Type 1} → statement M
 error-fields-spec =
@@ -70,8 +77,7 @@ error-fields-spec =
     (λ c. c .match3 .keys2)
     (λ c κs. tt)
     returns-3
+    cast-status
     (λ c κs. tt)
-    returns-4
-    cast-with-errors
     (λ c κs. tt)
-    returns-5)
+    returns-4)

@@ -1,37 +1,39 @@
 -- `record::restore::loop_fields` meets its contract. Before each field a law says where the reading stands; a field that was read takes
 -- it to the next, and one that was refused ends it.
-use mathlib.Core.Path.{_≡_, refl, sym, _∙_}
+use mathlib.Core.Path.{_≡_, refl, sym, _∙_, ap}
 use mathlib.Core.List.{List}
 use Prim.Native.Nat.{ℕ}
-use Rattle.clock.specs.declared.state.Clock.{Clock}
-use Rattle.record.specs.Inner.{loopPart, fromLoop}
-use Rattle.record.proofs.FieldLaws.{offset-field, frequency-field}
-use Rattle.record.proofs.Steps.{Before, went, stopped}
+use Rattle.number.specs.Layout.{readFrom}
+use Rattle.number.proofs.Layouts.{AtField, field-went, field-stopped}
+use Rattle.record.specs.Layout.{loopFields}
+use Rattle.record.specs.Reading.{restored}
+use Rattle.record.specs.Inner.{toldField, fromLoop, fromRate}
+use Rattle.record.specs.declared.groups.Time.{Time}
+use Rattle.record.proofs.FieldLaws.{frequency-field, offset-field}
 use Rattle.record.proofs.restore.loop_fields.Statement.{statement}
 use Rattle.record.proofs.restore.loop_fields.Tie as tie
 
-opened : (s : List ℕ) (at : ℕ) (c : Clock) → fromLoop s at c ≡ loopPart s at c
+opened : (t : Time) (s : List ℕ) (at : ℕ) → restored (readFrom (fromLoop t) s at) ≡ restored (readFrom (loopFields (λ l. fromRate t l)) s at)
 unfolding fromLoop
-opened s at c = refl
+opened t s at = refl
 
-abbrev b4 : tie.After-shared-slice-known → Before
-b4 c = record { all = _; field = _; rest = _; is = opened (c .before .args .bytes .now) (c .before .args .at) (c .before .args .c) }
+abbrev at-offset : tie.After-shared-slice-known → AtField restored
+at-offset c =
+    let i = c .before .args in
+    record { all = _; range = _; rest = _; bytes = _; at = _; is = opened (i .t) (i .bytes .now) (i .at) }
 
-abbrev b5 : tie.After-known-told → Before
-b5 c = record { all = _; field = _; rest = _; is = went (b4 (c .before .before .before .before)) (c .before .before .before .plain .ensures ∙ offset-field _ _) (c .before .d4 .given .1) }
+abbrev at-frequency : tie.After-known-told → AtField restored
+at-frequency c =
+    record { all = _; range = _; rest = _; bytes = _; at = _; is = field-went (at-offset (c .before .before .before .before)) (c .before .before .before .plain .ensures ∙ offset-field _ _) (ap toldField (c .before .d1 .given .1)) }
 
 returns : tie.Need-returns
-returns c = stopped (b4 (c .before .before .before .before)) (c .before .before .before .plain .ensures ∙ offset-field _ _) (c .before .enum-told .given .1) (c .refused .ensures)
+returns c = field-stopped (at-offset (c .before .before .before .before)) (c .before .before .before .plain .ensures ∙ offset-field _ _) (ap toldField (c .before .enum-told .given .1)) (c .refused .ensures)
 
 returns-2 : tie.Need-returns-2
-returns-2 c = stopped (b5 (c .before .before .before .before)) (c .before .before .before .plain2 .ensures ∙ frequency-field _ _) (c .before .enum-told2 .given .1) (c .refused2 .ensures)
+returns-2 c = field-stopped (at-frequency (c .before .before .before .before)) (c .before .before .before .plain2 .ensures ∙ frequency-field _ _) (ap toldField (c .before .enum-told2 .given .1)) (c .refused2 .ensures)
 
 returns-3 : tie.Need-returns-3
-returns-3 c =
-    let d = c .before .before in
-    c .rate-fields .ensures
-    ∙ rw (c .before .with-loop .ensures)
-    (sym (went (b5 (d .before .before .before .before)) (d .before .before .before .plain2 .ensures ∙ frequency-field _ _) (d .before .d5 .given .1)))
+returns-3 c = c .rate-fields .ensures ∙ sym (field-went (at-frequency (c .before .before .before .before .before)) (c .before .before .before .before .plain2 .ensures ∙ frequency-field _ _) (ap toldField (c .before .before .d2 .given .1)))
 
 pub loop-fields-spec : {M : Type 1} → statement M
 loop-fields-spec =
@@ -47,6 +49,5 @@ loop-fields-spec =
     (λ c. c .match2 .keys2)
     (λ c κs. tt)
     returns-2
-    (λ c κs. tt)
     (λ c κs. tt)
     returns-3)

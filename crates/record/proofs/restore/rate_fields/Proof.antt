@@ -1,45 +1,48 @@
 -- `record::restore::rate_fields` meets its contract. Before each field a law says where the reading stands; a field that was read takes
 -- it to the next, and one that was refused ends it.
 use borrow.Author.Needs.{needs}
-use mathlib.Core.Path.{_≡_, refl, sym, _∙_}
+use mathlib.Core.Path.{_≡_, refl, sym, _∙_, ap}
 use mathlib.Core.List.{List}
 use Prim.Native.Nat.{ℕ}
 use lib.Dec.{lit<}
-use Rattle.clock.specs.declared.state.Clock.{Clock}
-use Rattle.record.specs.Inner.{upTo, ratePart, fromRate}
+use Rattle.number.specs.Layout.{readFrom}
+use Rattle.number.proofs.Layouts.{AtField, field-went, field-stopped}
+use Rattle.record.specs.Layout.{rateFields}
+use Rattle.record.specs.Reading.{restored}
+use Rattle.record.specs.Inner.{toldField, upTo, fromRate, fromUpdate}
+use Rattle.record.specs.declared.groups.Time.{Time}
+use Rattle.record.specs.declared.groups.Loop.{Loop}
 use Rattle.record.proofs.Ranges.{byte}
 use Rattle.record.proofs.FieldLaws.{adjustment-field, read-in}
-use Rattle.record.proofs.Steps.{Before, went, stopped}
 use Rattle.record.proofs.restore.rate_fields.Statement.{statement}
 use Rattle.record.proofs.restore.rate_fields.Tie as tie
 
-opened : (s : List ℕ) (at : ℕ) (c : Clock) → fromRate s at c ≡ ratePart s at c
+opened : (t : Time) (l : Loop) (s : List ℕ) (at : ℕ) → restored (readFrom (fromRate t l) s at) ≡ restored (readFrom (rateFields (λ a. fromUpdate t l a)) s at)
 unfolding fromRate
-opened s at c = refl
+opened t l s at = refl
 
-abbrev b6 : tie.After-struct-told → Before
-b6 c =
+abbrev at-adjustment : tie.After-struct-told → AtField restored
+at-adjustment c =
     let i = c .before .before .args in
-    record { all = _; field = _; rest = _; is = opened (i .bytes .now) (i .at) (i .c) }
+    record { all = _; range = _; rest = _; bytes = _; at = _; is = opened (i .t) (i .l) (i .bytes .now) (i .at) }
 
-abbrev b7 : tie.After-known-told → Before
-b7 c = record { all = _; field = _; rest = _; is = went (b6 (c .before .before .before .before)) (c .before .before .before .signed .ensures ∙ adjustment-field _ _) (c .before .d6 .given .1) }
+abbrev at-constant : tie.After-known-told → AtField restored
+at-constant c =
+    record { all = _; range = _; rest = _; bytes = _; at = _; is = field-went (at-adjustment (c .before .before .before .before)) (c .before .before .before .signed .ensures ∙ adjustment-field _ _) (ap toldField (c .before .d1 .given .1)) }
 
 returns : tie.Need-returns
-returns c = stopped (b6 (c .before .before .before .before)) (c .before .before .before .signed .ensures ∙ adjustment-field _ _) (c .before .enum-told .given .1) (c .refused .ensures)
+returns c = field-stopped (at-adjustment (c .before .before .before .before)) (c .before .before .before .signed .ensures ∙ adjustment-field _ _) (ap toldField (c .before .enum-told .given .1)) (c .refused .ensures)
 
 returns-2 : tie.Need-returns-2
-returns-2 c = stopped (b7 (c .before .before .before .before)) (c .before .before .before .plain .ensures) (c .before .enum-told2 .given .1) (c .refused2 .ensures)
+returns-2 c = field-stopped (at-constant (c .before .before .before .before)) (c .before .before .before .plain .ensures) (ap toldField (c .before .enum-told2 .given .1)) (c .refused2 .ensures)
 
-cast-with-rate : tie.Need-cast-with-rate
-cast-with-rate c = record { fits = byte 4 (lit< tt) (read-in (upTo 4) _ _ (c .before .before .before .plain .ensures) (c .before .d7 .given .1)) }
+cast-constant : tie.Need-cast-constant
+cast-constant c =
+    let d = c in
+    record { fits = byte 4 (lit< tt) (read-in (upTo 4) _ _ (d .before .before .before .plain .ensures) (d .before .d2 .given .1)) }
 
 returns-3 : tie.Need-returns-3
-returns-3 c =
-    let d = c .before .before in
-    c .update-fields .ensures
-    ∙ rw (c .before .with-rate .ensures)
-    (sym (went (b7 (d .before .before .before .before)) (d .before .before .before .plain .ensures) (d .before .d7 .given .1)))
+returns-3 c = c .update-fields .ensures ∙ sym (field-went (at-constant (c .before .before .before .before .before)) (c .before .before .before .before .plain .ensures) (ap toldField (c .before .before .d2 .given .1)))
 
 pub rate-fields-spec : {M : Type 1} → statement M
 rate-fields-spec =
@@ -56,7 +59,6 @@ rate-fields-spec =
     (λ c. c .match2 .keys2)
     (λ c κs. tt)
     returns-2
-    cast-with-rate
-    (λ c κs. tt)
+    cast-constant
     (λ c κs. tt)
     returns-3)

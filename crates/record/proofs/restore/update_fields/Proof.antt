@@ -1,47 +1,48 @@
--- `record::restore::update_fields` meets its contract. Before each field a law says where the reading stands; a field that was read
--- takes it to the next, and one that was refused ends it.
-use mathlib.Core.Path.{_≡_, refl, sym, _∙_}
+-- `record::restore::update_fields` meets its contract. Before each field a law says where the reading stands; a field that was read takes
+-- it to the next, and one that was refused ends it.
+use mathlib.Core.Path.{_≡_, refl, sym, _∙_, ap}
 use mathlib.Core.List.{List}
 use Prim.Native.Nat.{ℕ}
 use lib.Dec.{lit<}
-use Rattle.clock.specs.declared.state.Clock.{Clock}
-use Rattle.record.specs.Inner.{upTo, updatePart, fromUpdate}
+use Rattle.number.specs.Layout.{readFrom}
+use Rattle.number.proofs.Layouts.{AtField, field-went, field-stopped}
+use Rattle.record.specs.Layout.{updateFields}
+use Rattle.record.specs.Reading.{restored}
+use Rattle.record.specs.Inner.{toldField, upTo, fromUpdate, fromErrors}
+use Rattle.record.specs.declared.groups.Time.{Time}
+use Rattle.record.specs.declared.groups.Loop.{Loop}
+use Rattle.record.specs.declared.groups.Rate.{Rate}
 use Rattle.record.proofs.Ranges.{byte}
 use Rattle.record.proofs.FieldLaws.{read-in, reftime-field}
-use Rattle.record.proofs.Steps.{Before, went, stopped}
 use Rattle.record.proofs.restore.update_fields.Statement.{statement}
 use Rattle.record.proofs.restore.update_fields.Tie as tie
 
-opened : (s : List ℕ) (at : ℕ) (c : Clock) → fromUpdate s at c ≡ updatePart s at c
+opened : (t : Time) (l : Loop) (a : Rate) (s : List ℕ) (at : ℕ) → restored (readFrom (fromUpdate t l a) s at) ≡ restored (readFrom (updateFields (λ u. fromErrors t l a u)) s at)
 unfolding fromUpdate
-opened s at c = refl
+opened t l a s at = refl
 
-abbrev b8 : tie.After-shared-slice-known → Before
-b8 c = record { all = _; field = _; rest = _; is = opened (c .before .args .bytes .now) (c .before .args .at) (c .before .args .c) }
+abbrev at-flag : tie.After-shared-slice-known → AtField restored
+at-flag c =
+    let i = c .before .args in
+    record { all = _; range = _; rest = _; bytes = _; at = _; is = opened (i .t) (i .l) (i .a) (i .bytes .now) (i .at) }
 
-abbrev b9 : tie.After-known-told → Before
-b9 c = record { all = _; field = _; rest = _; is = went (b8 (c .before .before .before .before)) (c .before .before .before .plain .ensures) (c .before .d8 .given .1) }
+abbrev at-reftime : tie.After-known-told → AtField restored
+at-reftime c =
+    record { all = _; range = _; rest = _; bytes = _; at = _; is = field-went (at-flag (c .before .before .before .before)) (c .before .before .before .plain .ensures) (ap toldField (c .before .d1 .given .1)) }
 
 returns : tie.Need-returns
-returns c = stopped (b8 (c .before .before .before .before)) (c .before .before .before .plain .ensures) (c .before .enum-told .given .1) (c .refused .ensures)
+returns c = field-stopped (at-flag (c .before .before .before .before)) (c .before .before .before .plain .ensures) (ap toldField (c .before .enum-told .given .1)) (c .refused .ensures)
 
 returns-2 : tie.Need-returns-2
-returns-2 c =
-    stopped (b9 (c .before .before .before .before .before))
-    (c .before .before .before .plain2 .ensures ∙ reftime-field _ _ (c .before .before .before .before .before .before .d8 .given .0 .0) (c .before .before .before .before .last-reftime .ensures))
-    (c .before .enum-told2 .given .1) (c .refused2 .ensures)
+returns-2 c = field-stopped (at-reftime (c .before .before .before .before .before)) (c .before .before .before .plain2 .ensures ∙ reftime-field _ _ (c .before .before .before .before .before .before .d1 .given .0 .0) (c .before .before .before .before .last-reftime .ensures)) (ap toldField (c .before .enum-told2 .given .1)) (c .refused2 .ensures)
 
-cast-with-update : tie.Need-cast-with-update
-cast-with-update c =
+cast-updated : tie.Need-cast-updated
+cast-updated c =
     let d = c .before .before .before .before .before in
-    record { fits = byte 1 (lit< tt) (read-in (upTo 1) _ _ (d .before .before .before .plain .ensures) (d .before .d8 .given .1)) }
+    record { fits = byte 1 (lit< tt) (read-in (upTo 1) _ _ (d .before .before .before .plain .ensures) (d .before .d1 .given .1)) }
 
 returns-3 : tie.Need-returns-3
-returns-3 c =
-    let d = c .before .before in
-    c .error-fields .ensures
-    ∙ rw (c .before .with-update .ensures)
-    (sym (went (b9 (d .before .before .before .before .before)) (d .before .before .before .plain2 .ensures ∙ reftime-field _ _ (d .before .before .before .before .before .before .d8 .given .0 .0) (d .before .before .before .before .last-reftime .ensures)) (d .before .d9 .given .1)))
+returns-3 c = c .error-fields .ensures ∙ sym (field-went (at-reftime (c .before .before .before .before .before .before)) (c .before .before .before .before .plain2 .ensures ∙ reftime-field _ _ (c .before .before .before .before .before .before .before .d1 .given .0 .0) (c .before .before .before .before .before .last-reftime .ensures)) (ap toldField (c .before .before .d2 .given .1)))
 
 pub update-fields-spec : {M : Type 1} → statement M
 update-fields-spec =
@@ -58,7 +59,6 @@ update-fields-spec =
     (λ c. c .match2 .keys2)
     (λ c κs. tt)
     returns-2
-    cast-with-update
-    (λ c κs. tt)
+    cast-updated
     (λ c κs. tt)
     returns-3)

@@ -4,11 +4,10 @@ use borrow.Author.Tests.{not-true, not-false}
 use mathlib.Core.Path.{_≡_, refl, sym, _∙_, ap}
 use mathlib.Core.Bool.{true}
 use native.Mathlib.Omega.{arith}
-use lib.Seq.{length-take-le}
 use Rattle.number.specs.Form.{bytesOfAll}
 use Rattle.number.specs.Writing.{answered, filled}
 use Rattle.clock.specs.State.{inRange}
-use Rattle.record.specs.Layout.{recordOf}
+use Rattle.record.specs.Layout.{numbersOf, recordOf}
 use Rattle.record.proofs.SavingLaws.{Drafted, drafted, copied, out-of-range, too-short, stored}
 use Rattle.record.proofs.save.write.Statement.{statement}
 use Rattle.record.proofs.save.write.Tie as tie
@@ -21,10 +20,11 @@ unfolding recordOf
 whole c = ap bytesOfAll (c .before .before .before .numbers .ensures)
 
 draft : (c : tie.After-write-all) → Drafted (start c .args .c) (c .write-all .result) (c .write-all .last .0)
+unfolding numbersOf
 draft c =
     drafted (start c .args .c) _ refl
-    (c .write-all .ensures .0 ∙ ap (answered _ 0) (whole c))
-    (c .write-all .ensures .1 ∙ ap (filled _ 0) (whole c))
+    (c .write-all .ensures .answer ∙ ap (answered _ 0) (whole c))
+    (c .write-all .ensures .buffer ∙ ap (filled _ 0) (whole c))
 
 sound : (c : tie.After-write-all) → inRange (start c .args .c) ≡ true
 sound c =
@@ -46,15 +46,13 @@ returns-2 c =
     too-short _ _ (sound w) (omega (arith, draft w .size, c .if2 .taken))
 
 array-share-prefix-text : tie.Need-array-share-prefix-text
-array-share-prefix-text c = draft (c .before .before) .room
+array-share-prefix-text c = search needs
 
 slice-aggregate-copy : tie.Need-slice-aggregate-copy
-slice-aggregate-copy c = sym (length-take-le _ _ (draft (c .before .before .before) .room))
+slice-aggregate-copy c = search needs
 
 copy-requires : tie.Need-copy-requires
-copy-requires c κs =
-    let e = c .before .before in
-    rw (length-take-le _ _ (draft (e .before .before) .room)) (e .if2 .left)
+copy-requires c κs = search needs
 
 same-length : tie.Need-same-length
 same-length c = search needs
@@ -64,8 +62,8 @@ returns-3 c =
     let e = c .before .before .before .before .before in
     let w = e .before .before in
     let d = draft w in
-    let s = stored _ (start w .args .buf .now) (sound w) (omega (arith, d .size, e .if2 .left)) in
-    (rw (d .size) (s .0), copied (start w .args .buf .now) (d .bytes) (c .before .before .copy .ensures .1) ∙ s .1)
+    stored _ (start w .args .buf .now) (sound w) (omega (arith, d .size, e .if2 .left)) (d .size)
+    (copied (start w .args .buf .now) (d .bytes) (c .before .before .copy .ensures .1))
 
 pub write-spec : {M : Type 1} → statement M
 write-spec =

@@ -1,0 +1,249 @@
+-- The laws of every layout of a record, by induction on it: no field is named here. `read-back` reads what was written, `taken` says what
+-- was written where a reading was accepted, `failures` which refusals there are, `no-longer` how long a record can be.
+use mathlib.Core.Path.{_≡_, refl, sym, _∙_, ap}
+use mathlib.Core.Bool.{Bool, true, false, _&&_, false≢true, and-assoc, and-false}
+use mathlib.Core.Bool.{and-true as and-one}
+use mathlib.Core.List.{List, [], _∷_}
+use mathlib.Core.Logic.{⊎-elim}
+use Prim.Native.Nat.{ℕ, suc, _+_, _^_, _<_, _≤_}
+use native.Mathlib.Nat.{pow-le-pow-right}
+use native.Mathlib.Omega.{arith}
+use lib.Dec.{ltb}
+use lib.ListN.{length, getD}
+use borrow.Author.Tests.{ltb-false, lt-ltb, le-ltb}
+use Rattle.integers.proofs.Ranges.{and-true, true-and}
+use Rattle.number.specs.Form.{limit, bytesOfAll}
+use Rattle.number.specs.Reading.{Found, number, refused, numberAt}
+use Rattle.number.specs.Sequence.{then}
+use Rattle.number.specs.Inner.{refusedAs}
+use Rattle.number.specs.Layout.{judgedBy, fieldAt, Layout, field, whole, Outcome, got, failed, readFrom}
+use Rattle.number.proofs.Lists.{either}
+use Rattle.number.proofs.WrittenRead.{Holds, written-read}
+use Rattle.number.proofs.Chain.{Ahead, ahead-first, ahead-rest, ahead-end, _◂_, ahead-none}
+use Rattle.number.proofs.Sequence.{Before, went, stopped}
+use Rattle.number.proofs.Extent.{refused-only}
+use Rattle.number.proofs.Sizes.{sizes-below, sizes-none}
+
+-- ---- the numbers of a record
+
+-- a number for each field
+unfoldable pub Choice : {A : Type 0} → Layout A → Type 0
+Choice (field range rest) = record { n : ℕ; small : n < limit; fits : range n ≡ true; more : Choice (rest n) }
+Choice (whole saved) = record {}
+
+-- the numbers, and what they stand for
+unfoldable pub chosen : {A : Type 0} (l : Layout A) → Choice l → List ℕ
+unfolding Choice
+chosen (field range rest) k = k .n ∷ chosen (rest (k .n)) (k .more)
+chosen (whole saved) k = []
+
+unfoldable pub stands : {A : Type 0} (l : Layout A) → Choice l → A
+unfolding Choice
+stands (field range rest) k = stands (rest (k .n)) (k .more)
+stands (whole saved) k = saved
+
+-- ---- numbers that a layout allows
+
+unfoldable pub allows : {A : Type 0} → Layout A → List ℕ → Bool
+allows (field range rest) [] = false
+allows (field range rest) (n ∷ ns) = range n && allows (rest n) ns
+allows (whole saved) [] = true
+allows (whole saved) (n ∷ ns) = false
+
+-- the same tests, joined from the first on, after others
+unfoldable pub joined : {A : Type 0} → Bool → Layout A → List ℕ → Bool
+joined so (field range rest) [] = false
+joined so (field range rest) (n ∷ ns) = joined (so && range n) (rest n) ns
+joined so (whole saved) [] = so
+joined so (whole saved) (n ∷ ns) = false
+
+pub allows-joined : {A : Type 0} (so : Bool) (l : Layout A) (ns : List ℕ) → so && allows l ns ≡ joined so l ns
+unfolding allows joined
+allows-joined so (field range rest) [] = and-false so
+allows-joined so (field range rest) (n ∷ ns) = sym (and-assoc so (range n) (allows (rest n) ns)) ∙ allows-joined (so && range n) (rest n) ns
+allows-joined so (whole saved) [] = and-one so
+allows-joined so (whole saved) (n ∷ ns) = and-false so
+
+-- .. are written in m bytes at most, none of them in more than five
+unfoldable pub AtMost : {A : Type 0} → Layout A → ℕ → Type 0
+AtMost (field range rest) m =
+    record { k : ℕ; left : ℕ; five : k < 5; sum : suc k + left ≤ m; small : (n : ℕ) → range n ≡ true → n < 128 ^ suc k; more : (n : ℕ) → AtMost (rest n) left }
+AtMost (whole saved) m = Unit {0}
+
+-- one field more, of k + 1 bytes at most
+pub longer : {A : Type 0} (k left : ℕ) (range : ℕ → Bool) (rest : ℕ → Layout A) → k < 5 → ((n : ℕ) → range n ≡ true → n < 128 ^ suc k)
+    → ((n : ℕ) → AtMost (rest n) left) → AtMost (field range rest) (suc k + left)
+unfolding AtMost
+longer k left range rest five small more = record { k = k; left = left; five = five; sum = omega arith; small = small; more = more }
+
+pub nothing : {A : Type 0} (saved : A) → AtMost (whole saved) 0
+unfolding AtMost
+nothing saved = tt
+
+-- so they are a choice
+unfoldable pub choose : {A : Type 0} (l : Layout A) (m : ℕ) → AtMost l m → (ns : List ℕ) → allows l ns ≡ true → Choice l
+unfolding Choice AtMost allows
+choose (field range rest) m b [] e = absurd (false≢true e)
+choose (field range rest) m b (n ∷ ns) e =
+    let w = and-true (range n) (allows (rest n) ns) e in
+    let p : 128 ^ suc (b .k) ≤ 128 ^ 5 = pow-le-pow-right (omega arith) {i = suc (b .k)} {j = 5} (omega (arith, b .five)) in
+    record { n = n; small = omega (arith, b .small n (w .0)); fits = w .0; more = choose (rest n) (b .left) (b .more n) ns (w .1) }
+choose (whole saved) m b [] e = record {}
+choose (whole saved) m b (n ∷ ns) e = absurd (false≢true e)
+
+pub choose-chosen : {A : Type 0} (l : Layout A) (m : ℕ) (b : AtMost l m) (ns : List ℕ) (e : allows l ns ≡ true) → chosen l (choose l m b ns e) ≡ ns
+unfolding choose chosen Choice AtMost allows
+choose-chosen (field range rest) m b [] e = absurd (false≢true e)
+choose-chosen (field range rest) m b (n ∷ ns) e =
+    ap (λ (x : List ℕ). n ∷ x) (choose-chosen (rest n) (b .left) (b .more n) ns (and-true (range n) (allows (rest n) ns) e .1))
+choose-chosen (whole saved) m b [] e = refl
+choose-chosen (whole saved) m b (n ∷ ns) e = absurd (false≢true e)
+
+-- and a choice is allowed
+pub chosen-allowed : {A : Type 0} (l : Layout A) (k : Choice l) → allows l (chosen l k) ≡ true
+unfolding chosen Choice allows
+chosen-allowed (field range rest) k = true-and (k .fits) (chosen-allowed (rest (k .n)) (k .more))
+chosen-allowed (whole saved) k = refl
+
+-- how long a record can be
+pub no-longer : {A : Type 0} (l : Layout A) (m : ℕ) → AtMost l m → (k : Choice l) → length (bytesOfAll (chosen l k)) ≤ m
+unfolding chosen Choice AtMost
+no-longer (field range rest) m b k =
+    omega (
+      arith,
+      b .sum,
+      sizes-below (b .k) (b .left) (k .n) (chosen (rest (k .n)) (k .more)) (b .small (k .n) (k .fits)) (no-longer (rest (k .n)) (b .left) (b .more (k .n)) (k .more)),
+    )
+no-longer (whole saved) m b k = omega (arith, sizes-none)
+
+-- ---- a field, by the number that stands there
+
+opened : {A : Type 0} (range : ℕ → Bool) (rest : ℕ → Layout A) (s : List ℕ) (at : ℕ)
+    → readFrom (field range rest) s at ≡ then failed (fieldAt range s at) (λ n next. readFrom (rest n) s next)
+unfolding readFrom
+opened range rest s at = refl
+
+module _ {A : Type 0} (range : ℕ → Bool) (s : List ℕ) (at : ℕ) (go : ℕ → ℕ → Outcome A) where
+  on-read : {v next : ℕ} → numberAt s at ≡ number v next → range v ≡ true → then failed (fieldAt range s at) go ≡ go v next
+  unfolding then fieldAt judgedBy
+  on-read e w = ap (λ (x : Found). then failed (judgedBy range x) go) e ∙ simp w
+
+  on-outside : {v next : ℕ} → numberAt s at ≡ number v next → range v ≡ false → then failed (fieldAt range s at) go ≡ failed 12
+  unfolding then fieldAt judgedBy
+  on-outside e w = ap (λ (x : Found). then failed (judgedBy range x) go) e ∙ simp w
+
+  on-refused : {r : ℕ} → numberAt s at ≡ refused r → then failed (fieldAt range s at) go ≡ failed r
+  unfolding then fieldAt judgedBy
+  on-refused e = ap (λ (x : Found). then failed (judgedBy range x) go) e
+
+-- ---- what was written is read
+
+read-on : {A : Type 0} (l : Layout A) (k : Choice l) {s after : List ℕ} {at : ℕ} {x : Outcome A} → Ahead s at (chosen l k) after
+    → ((end : ℕ) → Ahead s end [] after → readFrom (whole (stands l k)) s end ≡ x) → readFrom l s at ≡ x
+unfolding readFrom chosen stands Choice
+read-on (field range rest) k {s} {after} {at} a end =
+    on-read range s at (λ n next. readFrom (rest n) s next) (ahead-first a (k .small)) (k .fits) ∙ read-on (rest (k .n)) (k .more) (ahead-rest a) end
+read-on (whole saved) k {at = at} a end = end at a
+
+pub read-back : {A : Type 0} (l : Layout A) (k : Choice l) {s : List ℕ} {at : ℕ} → Ahead s at (chosen l k) [] → readFrom l s at ≡ got (stands l k)
+unfolding readFrom
+read-back l k {s} a = read-on l k a (λ end e. simp (le-ltb end (length s) (omega (arith, ahead-end e))))
+
+pub read-more : {A : Type 0} (l : Layout A) (k : Choice l) {s after : List ℕ} {at : ℕ} → 0 < length after → Ahead s at (chosen l k) after
+    → readFrom l s at ≡ failed 13
+unfolding readFrom
+read-more l k {s} h a = read-on l k a (λ end e. simp (lt-ltb end (length s) (omega (arith, ahead-end e))))
+
+-- ---- what is read was written
+
+-- the choice that was read
+pub record Taken {A : Type 0} (l : Layout A) (s : List ℕ) (at : ℕ) (saved : A) : Type 0 where
+  pub choice : Choice l
+  pub ahead : Ahead s at (chosen l choice) []
+  pub is : stands l choice ≡ saved
+
+-- no failure is what was saved
+not-failed : {A P : Type 0} {x : Outcome A} {r : ℕ} {saved : A} → x ≡ failed r → x ≡ got saved → P
+not-failed e f = let z : _≡_ {A = ℕ} 0 1 = cc in absurd (omega arith)
+
+module _ {A : Type 0} (s : List ℕ) (bytes : (i : ℕ) → getD s i 0 < 256) (saved : A) where
+  was-found : {P : Type 0} (range : ℕ → Bool) (at : ℕ) (go : ℕ → ℕ → Outcome A) (x : Found) → numberAt s at ≡ x
+      → then failed (fieldAt range s at) go ≡ got saved
+      → ((n next : ℕ) → Holds s at n next → range n ≡ true → go n next ≡ got saved → P) → P
+  was-found range at go (number n k) e f on =
+      ⊎-elim (λ w. on n k (written-read s bytes at n k e) w (sym (on-read range s at go e w) ∙ f))
+      (λ w. not-failed (on-outside range s at go e w) f)
+      (either (range n))
+  was-found range at go (refused r) e f on = not-failed (on-refused range s at go e) f
+
+  was-end : (at : ℕ) (a : A) → readFrom (whole a) s at ≡ got saved → Ahead s at [] [] × (a ≡ saved)
+  unfolding readFrom
+  was-end at a e =
+      ⊎-elim (λ (t : ltb at (length s) ≡ true). not-failed {r = 13} (simp t) e)
+      (λ (t : ltb at (length s) ≡ false).
+      let f : got a ≡ got saved = simp t at e in
+      (ahead-none s at (ltb-false at (length s) t), cc))
+      (either (ltb at (length s)))
+
+  pub taken : (l : Layout A) (at : ℕ) → readFrom l s at ≡ got saved → Taken l s at saved
+  unfolding readFrom chosen stands Choice
+  taken (field range rest) at e =
+      was-found range at (λ n next. readFrom (rest n) s next) (numberAt s at) refl e (λ n next h w e'.
+      let t = taken (rest n) next e' in
+      record { choice = record { n = n; small = h .small; fits = w; more = t .choice }; ahead = h ◂ t .ahead; is = t .is })
+  taken (whole a) at e = let w = was-end at a e in record { choice = record {}; ahead = w .0; is = w .1 }
+
+-- ---- which refusals there are
+
+abbrev pub Known : {A : Type 0} → Outcome A → Type 0
+Known (got saved) = Unit {0}
+Known (failed r) = (10 ≤ r) × (r ≤ 13)
+
+refused-known : (s : List ℕ) (at : ℕ) {r : ℕ} → numberAt s at ≡ refused r → (10 ≤ r) × (r ≤ 13)
+refused-known s at e = ⊎-elim (λ h. (omega arith, omega arith)) (λ h. (omega arith, omega arith)) (refused-only s at e)
+
+module _ {A : Type 0} (s : List ℕ) where
+  known-found : (range : ℕ → Bool) (at : ℕ) (go : ℕ → ℕ → Outcome A) (x : Found) → numberAt s at ≡ x → ((n next : ℕ) → Known (go n next))
+      → Known (then failed (fieldAt range s at) go)
+  known-found range at go (number n k) e on =
+      ⊎-elim (λ w. rw (on-read range s at go e w) (on n k))
+      (λ w. rw (on-outside range s at go e w) (omega arith, omega arith))
+      (either (range n))
+  known-found range at go (refused r) e on = rw (on-refused range s at go e) (refused-known s at e)
+
+  pub known : (l : Layout A) (at : ℕ) → Known (readFrom l s at)
+  unfolding readFrom
+  known (field range rest) at = known-found range at (λ n next. readFrom (rest n) s next) (numberAt s at) refl (λ n next. known (rest n) next)
+  known (whole saved) at =
+      ⊎-elim (λ (t : ltb at (length s) ≡ true). simp t (omega arith, omega arith)) (λ (t : ltb at (length s) ≡ false). simp t tt)
+      (either (ltb at (length s)))
+
+-- ---- how the reading of a record goes: the laws of `Sequence` at a field, whatever the reader makes of the outcome
+
+pub record AtField {A R : Type 0} (tell : Outcome A → R) : Type 0 where
+  pub all : R
+  pub range : ℕ → Bool
+  pub rest : ℕ → Layout A
+  pub bytes : List ℕ
+  pub at : ℕ
+  pub is : all ≡ tell (readFrom (field range rest) bytes at)
+
+module _ {A R : Type 0} {tell : Outcome A → R} (b : AtField tell) {x : Found} (e : x ≡ fieldAt (b .range) (b .bytes) (b .at)) where
+  abbrev here : Before (Outcome A)
+  here =
+      record {
+        all = readFrom (field (b .range) (b .rest)) (b .bytes) (b .at);
+        ends = failed;
+        found = fieldAt (b .range) (b .bytes) (b .at);
+        go = λ n next. readFrom (b .rest n) (b .bytes) next;
+        is = opened (b .range) (b .rest) (b .bytes) (b .at);
+      }
+
+  -- the field was read
+  pub field-went : {n next : ℕ} → x ≡ number n next → b .all ≡ tell (readFrom (b .rest n) (b .bytes) next)
+  field-went v = b .is ∙ ap tell (went here e v)
+
+  -- it was refused
+  pub field-stopped : {r : ℕ} {answer : R} → x ≡ refused r → answer ≡ refusedAs (λ (n : ℕ). tell (failed n)) x → answer ≡ b .all
+  field-stopped v p =
+      p ∙ ap (refusedAs (λ (n : ℕ). tell (failed n))) v ∙ ap tell (stopped here e v (sym (ap (refusedAs failed) v))) ∙ sym (b .is)

@@ -1,0 +1,40 @@
+-- Records of numbers, as they are read from any bytes: fields in their order, and then nothing more. For any type of what is saved; a
+-- crate that saves something gives its layout. Document 01: "A record reader takes fields in order, and a field that fails to read ends
+-- the reading with its number; .. 13 comes last."
+use mathlib.Core.Bool.{Bool, cond}
+use mathlib.Core.List.{List}
+use Prim.Native.Nat.{ℕ}
+use lib.Dec.{ltb}
+use lib.IntN.{ℤ}
+use lib.ListN.{length}
+use Rattle.number.specs.Mapping.{unmapped}
+use Rattle.number.specs.Reading.{Found, number, refused, numberAt}
+use Rattle.number.specs.Sequence.{then}
+
+-- a number out of the field's range is 12 "unknown record version .. or record field out of range"; 10 and 11 are the number's own
+unfoldable pub judgedBy : (ℕ → Bool) → Found → Found
+judgedBy range (number v next) = cond (range v) (number v next) (refused 12)
+judgedBy range (refused n) = refused n
+
+-- the field at place `at` of s
+unfoldable pub fieldAt : (ℕ → Bool) → List ℕ → ℕ → Found
+fieldAt range s at = judgedBy range (numberAt s at)
+
+-- a signed field's range, of the number that it is mapped to
+abbrev pub mappedRange : (ℤ → Bool) → ℕ → Bool
+mappedRange range n = range (unmapped n)
+
+-- A layout: a field, whose number says how the record goes on; or, after the last field, what the numbers before it stand for.
+pub data Layout (A : Type 0) : Type 0 where
+  field : (range : ℕ → Bool) (rest : ℕ → Layout A) → Layout A
+  whole : (saved : A) → Layout A
+
+-- What a reading gives: what was saved, or a number of document 01's table of refusals.
+pub data Outcome (A : Type 0) : Type 0 where
+  got : (saved : A) → Outcome A
+  failed : (refusal : ℕ) → Outcome A
+
+-- a reading from place `at` of s on; 13 "bytes after a record's end"
+unfoldable pub readFrom : {A : Type 0} → Layout A → List ℕ → ℕ → Outcome A
+readFrom (field range rest) s at = then failed (fieldAt range s at) (λ n next. readFrom (rest n) s next)
+readFrom (whole saved) s at = cond (ltb at (length s)) (failed 13) (got saved)

@@ -1,0 +1,56 @@
+// What has been read of a record, by groups of fields, as the record holds them: signed fields are the numbers that they are mapped to.
+// And the clock that all of them stand for.
+ghost use mathlib.Core.Path.{_≡_};
+ghost use Rattle.record.specs.Layout.{clockOf};
+use crate::field::unmapped_of;
+use clock::state::Clock;
+use clock::units::Frequency;
+use clock::units::Micros;
+use clock::units::OffsetUnits;
+use clock::units::PhaseUnits;
+
+pub(crate) struct Time {
+    pub seconds: u32,
+    pub micros: u32,
+    pub phase: u32,
+}
+
+pub(crate) struct Loop {
+    pub offset: u32,
+    pub frequency: u32,
+}
+
+pub(crate) struct Rate {
+    pub adjustment: u32,
+    pub constant: u8,
+}
+
+pub(crate) struct Update {
+    pub updated: u8,
+    pub reftime: u32,
+}
+
+pub(crate) struct Errors {
+    pub maxerror: u32,
+    pub esterror: u32,
+    pub status: u8,
+}
+
+pub(crate) fn clock_of(t: Time, l: Loop, a: Rate, u: Update, e: Errors) -> Clock
+    ensures { λ r. ⌜ r ≡ clockOf t l a u e ⌝ }
+{
+    Clock {
+        seconds: t.seconds,
+        micros: Micros(t.micros),
+        phase: PhaseUnits(unmapped_of(t.phase)),
+        offset: OffsetUnits(unmapped_of(l.offset)),
+        frequency: Frequency(unmapped_of(l.frequency)),
+        adjustment: PhaseUnits(unmapped_of(a.adjustment)),
+        constant: a.constant,
+        updated: u.updated,
+        reftime: u.reftime,
+        maxerror: Micros(e.maxerror),
+        esterror: Micros(e.esterror),
+        status: e.status,
+    }
+}
