@@ -2,8 +2,8 @@
 use mathlib.Core.Path.{sym, _∙_}
 use native.Mathlib.Omega.{arith}
 use borrow.Author.Tests.{not-true, not-false}
-use Rattle.label.proofs.Accept.{found-alike, not-twenty, not-marked, not-dated, not-timed, too-late, in-time, is-label}
 use borrow.Author.Needs.{needs}
+use Rattle.label.proofs.Accept.{found-alike, not-twenty, not-marked, not-dated, not-timed, too-late, in-time, is-label}
 use Rattle.label.proofs.read.Statement.{statement}
 use Rattle.label.proofs.read.Tie as tie
 
