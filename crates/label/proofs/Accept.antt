@@ -110,13 +110,13 @@ lastDay = lastSecond / secondsPerDay
 abbrev pub lastDayEnd : ℕ
 lastDayEnd = lastSecond % secondsPerDay
 
--- a day and a second of it that are not past the last second
-pub in-time : {d : Date} {n h m s t : ℕ} {sixty : Bool} → FoundAs d (Day n) → ShownBy h m s (At t sixty)
-    → eqb n lastDay && ltb lastDayEnd t ≡ false → secondsPerDay * n + t ≤ lastSecond
-in-time {n = n} {t = t} (found known e) (shown w) = by-day (eqb n lastDay) refl
+-- a day and a second of it that are not past the last second, where no later end is tested
+pub in-time : {d : Date} {n h m s t end : ℕ} {sixty : Bool} → FoundAs d (Day n) → ShownBy h m s (At t sixty)
+    → eqb n lastDay && ltb end t ≡ false → end ≤ lastDayEnd → secondsPerDay * n + t ≤ lastSecond
+in-time {n = n} {t = t} {end = end} (found known e) (shown w) f l = by-day (eqb n lastDay) refl f
   where
-    by-day : (last : Bool) → eqb n lastDay ≡ last → last && ltb lastDayEnd t ≡ false → secondsPerDay * n + t ≤ lastSecond
-    by-day true e f = omega (arith, eqb-true n lastDay e, ltb-false lastDayEnd t f)
+    by-day : (last : Bool) → eqb n lastDay ≡ last → last && ltb end t ≡ false → secondsPerDay * n + t ≤ lastSecond
+    by-day true e f = omega (arith, eqb-true n lastDay e, ltb-false end t f)
     by-day false e f = let early : n ≡ lastDay → ⊥ = eqb-false n lastDay e in omega (arith, known, w .within)
 
 module _ (text : List ℕ) where
@@ -133,13 +133,13 @@ module _ (text : List ℕ) where
   not-timed (unshown f) = refuses (λ s sixty w. f (s % secondsPerDay) sixty (w .time))
 
   module _ (n t : ℕ) (sixty : Bool) where
-    pub too-late : FoundAs (dateAt text) (Day n) → ShownBy (pairAt text 11) (pairAt text 14) (pairAt text 17) (At t sixty)
-        → eqb n lastDay && ltb lastDayEnd t ≡ true → ReadsAs text noLabel
-    too-late (found h e) (shown w) l =
-        let p = and-true (eqb n lastDay) (ltb lastDayEnd t) l in
+    pub too-late : {end : ℕ} → FoundAs (dateAt text) (Day n) → ShownBy (pairAt text 11) (pairAt text 14) (pairAt text 17) (At t sixty)
+        → eqb n lastDay && ltb end t ≡ true → lastDayEnd ≤ end → ReadsAs text noLabel
+    too-late {end} (found h e) (shown w) l late =
+        let p = and-true (eqb n lastDay) (ltb end t) l in
         refuses (λ s sixty′ w′.
         let day : n ≡ s / secondsPerDay = one-day n (s / secondsPerDay) (sym e ∙ w′ .date) in
-        omega (arith, day, eqb-true n lastDay (p .0), ltb-true lastDayEnd t (p .1), shown-once w (w′ .time) .0, w′ .bound))
+        omega (arith, day, eqb-true n lastDay (p .0), ltb-true end t (p .1), shown-once w (w′ .time) .0, w′ .bound))
 
     pub is-label : length text ≡ labelSize → isMarked text ≡ true → FoundAs (dateAt text) (Day n)
         → ShownBy (pairAt text 11) (pairAt text 14) (pairAt text 17) (At t sixty)

@@ -39,7 +39,7 @@ pub fn write(c: Clock, out: &mut [u8]) -> u8
         return 14;
     }
     text::put_label(c.seconds, out);
-    // Rare, and so apart from the rest.
+    // The second can read 60 while an inserted one is in progress, which is rare.
     if c.status == TIME_OOP {
         text::put_sixty(c.seconds, out);
         return 0;
