@@ -110,6 +110,9 @@ lastDay = lastSecond / secondsPerDay
 abbrev pub lastDayEnd : ℕ
 lastDayEnd = lastSecond % secondsPerDay
 
+pub day-known : {d : Date} {n : ℕ} → FoundAs d (Day n) → n < days
+day-known (found known e) = known
+
 -- a day and a second of it that are not past the last second, where no later end is tested
 pub in-time : {d : Date} {n h m s t end : ℕ} {sixty : Bool} → FoundAs d (Day n) → ShownBy h m s (At t sixty)
     → eqb n lastDay && ltb end t ≡ false → end ≤ lastDayEnd → secondsPerDay * n + t ≤ lastSecond

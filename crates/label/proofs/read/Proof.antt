@@ -3,7 +3,7 @@ use mathlib.Core.Path.{sym, _∙_}
 use native.Mathlib.Omega.{arith}
 use borrow.Author.Tests.{not-true, not-false}
 use borrow.Author.Needs.{needs}
-use Rattle.label.proofs.Accept.{found-alike, not-twenty, not-marked, not-dated, not-timed, too-late, in-time, is-label}
+use Rattle.label.proofs.Accept.{found-alike, not-twenty, not-marked, not-dated, not-timed, day-known, too-late, in-time, is-label}
 use Rattle.label.proofs.read.Statement.{statement}
 use Rattle.label.proofs.read.Tie as tie
 
@@ -74,10 +74,7 @@ returns-5 c =
 mul-t12 : tie.Need-mul-t12
 mul-t12 c =
     let d = c .before .before in
-    let t = d .before .before .before .before .before in
-    let day = found-alike (d .before .before .before .date-at .ensures) (rw (d .found .given .1) at (d .before .before .day-of .ensures)) in
-    let time = rw (t .time .given .1) at (t .before .before .time-at .ensures) in
-    record { fits = omega (arith, in-time day time (c .if3 .left) (omega arith)) }
+    record { fits = omega (arith, day-known (rw (d .found .given .1) at (d .before .before .day-of .ensures))) }
 
 add-t13 : tie.Need-add-t13
 add-t13 c =
