@@ -1,8 +1,10 @@
 -- The Gregorian calendar, counted in days from 1 January 1970. Each definition can be read against the rule itself: none holds
 -- arithmetic of the routines.
-use Prim.Native.Nat.{ℕ, zero, suc, _+_, _-_, _/_, _%_, _^_}
 use mathlib.Core.Bool.{Bool, cond}
+use Prim.Native.Nat.{ℕ, zero, suc, _+_, _/_, _%_}
 use lib.Dec.{eqb, ltb}
+use Rattle.clock.specs.Units.{secondsPerDay}
+use Rattle.clock.specs.State.{lastSecond}
 use Rattle.calendar.specs.declared.Date.{Date}
 
 -- every fourth year is a leap year, but of the centuries only every fourth
@@ -21,11 +23,14 @@ nextDay d =
     cond (ltb (d .day) (monthDays (d .year) (d .month))) (record { year = d .year; month = d .month; day = d .day + 1 })
     (cond (ltb (d .month) 12) (record { year = d .year; month = d .month + 1; day = 1 }) (record { year = d .year + 1; month = 1; day = 1 }))
 
+abbrev pub firstYear : ℕ
+firstYear = 1970
+
 -- the date of day n: day 0 is 1 January 1970, and the days are counted from there
 unfoldable pub dateOf : ℕ → Date
-dateOf zero = record { year = 1970; month = 1; day = 1 }
+dateOf zero = record { year = firstYear; month = 1; day = 1 }
 dateOf (suc n) = nextDay (dateOf n)
 
--- how many days 2 ^ 32 seconds reach, the last of them not whole
+-- how many days the clock's seconds reach, the last of them not whole
 abbrev pub days : ℕ
-days = (2 ^ 32 - 1) / 86400 + 1
+days = lastSecond / secondsPerDay + 1

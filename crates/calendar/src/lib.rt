@@ -1,4 +1,4 @@
-// The Gregorian calendar over the days that 2^32 seconds from 1970 on reach: 1 January 1970 to 7 February 2106.
+// The Gregorian calendar over the days that the clock's seconds reach: 1 January 1970 to 7 February 2106.
 // `date_of_second` and `day_of` are each other's inverse there; both answer for every input, without a loop.
 mod month;
 
@@ -6,11 +6,20 @@ ghost use mathlib.Core.Path.{_≡_};
 ghost use mathlib.Core.Bool.{_&&_};
 ghost use lib.Dec.{leb};
 ghost use Prim.Native.Nat.{_/_};
+ghost use Rattle.clock.specs.Units.{secondsPerDay};
 ghost use Rattle.calendar.specs.Calendar.{dateOf};
 ghost use Rattle.calendar.specs.Search.{FoundAs};
+use clock::state::LAST_SECOND;
 
-// The days that 2^32 seconds reach; the last, 7 February 2106, is not whole.
-pub const DAYS: u32 = 49711;
+const SECONDS_PER_DAY: u32 = 86400;
+
+// The days that the clock's seconds reach; the last, 7 February 2106, is not whole.
+const DAYS: u32 = LAST_SECOND / SECONDS_PER_DAY + 1;
+
+// The years of these days.
+const FIRST_YEAR: u32 = 1970;
+
+const LAST_YEAR: u32 = 2106;
 
 // A year such as 1970, its month from 1 to 12, its day from 1 to 31. Any numbers may be handed in: `day_of` judges them.
 pub struct Date {
@@ -21,9 +30,9 @@ pub struct Date {
 
 // The date of the day into which a second since 1970 falls.
 pub fn date_of_second(seconds: u32) -> Date
-    ensures { λ r. ⌜ r ≡ dateOf (seconds / 86400) ⌝ }
+    ensures { λ r. ⌜ r ≡ dateOf (seconds / secondsPerDay) ⌝ }
 {
-    let day = seconds / 86400;
+    let day = seconds / SECONDS_PER_DAY;
     let m = month::month_of(day);
     Date {
         year: m.year,
@@ -51,7 +60,7 @@ pub fn day_of(d: Date) -> Found
 {
     let year = d.year;
     let m = d.month;
-    if !within(year, 1970, 2106) {
+    if !within(year, FIRST_YEAR, LAST_YEAR) {
         return Found::NoDay;
     }
     if !within(m, 1, 12) {

@@ -3,15 +3,16 @@ use mathlib.Core.Path.{_≡_, refl, sym, ap, _∙_}
 use mathlib.Core.Bool.{Bool, true, false, cond, true≢false, _&&_}
 use mathlib.Core.List.{List}
 use mathlib.Core.Logic.{_⊎_, inl, inr, ⊎-elim}
-use Prim.Native.Nat.{ℕ, _+_, _*_, _/_, _%_, _<_}
+use Prim.Native.Nat.{ℕ, _+_, _*_, _/_, _%_, _≤_, _<_}
 use native.Mathlib.Omega.{arith}
 use borrow.Author.Tests.{eqb-true, eqb-false, eq-eqb, le-leb, ltb-true, ltb-false}
-use lib.Dec.{eqb, ltb, leb}
+use lib.Dec.{eqb, ltb}
 use lib.ListN.{length}
 use Rattle.integers.proofs.Ranges.{and-true}
 use Rattle.clock.specs.declared.state.Clock.{Clock}
 use Rattle.clock.specs.State.{inRange, freshClock, lastSecond, statusOop, statusBad}
 use Rattle.clock.proofs.Ok.{ok}
+use Rattle.clock.specs.Units.{secondsPerDay}
 use Rattle.calendar.specs.declared.Date.{Date}
 use Rattle.calendar.specs.declared.Found.{Found}
 use Rattle.calendar.specs.declared.Found.the-variants.{Day, NoDay}
@@ -20,9 +21,9 @@ use Rattle.calendar.specs.Search.{FoundAs, found, none}
 use Rattle.calendar.proofs.Dates.{one-day, same-parts}
 use Rattle.label.specs.declared.Answer.{Answer}
 use Rattle.label.specs.declared.fields.Time.the-variants.{At, NoTime}
-use Rattle.label.specs.Label.{labelOf, isSixty}
+use Rattle.label.specs.Label.{labelOf, isSixty, labelSize, lastSecondOfDay}
 use Rattle.label.specs.Reading.{WrittenFor, ReadsAs, accepted, refused}
-use Rattle.label.specs.Steps.{pairAt, isMarked, dateAt, AlikeDate, ShownBy, shown, unshown}
+use Rattle.label.specs.Inner.{pairAt, isMarked, dateAt, AlikeDate, ShownBy, shown, unshown}
 use Rattle.label.proofs.Digits.{alike-small, small-alike}
 use Rattle.label.proofs.Parts.{Ranges, ranges}
 use Rattle.label.proofs.Bytes.{Says, says, written}
@@ -31,8 +32,8 @@ use Rattle.label.proofs.DayTime.{shown-once}
 -- ---- clocks and their labels
 
 -- a 60 stands at a day's last second alone
-pub sixty-last : (c : Clock) → isSixty c ≡ true → c .seconds % 86400 ≡ 86399
-sixty-last c e = eqb-true (c .seconds % 86400) 86399 (and-true (eqb (c .status) statusOop) (eqb (c .seconds % 86400) 86399) e .1)
+pub sixty-last : (c : Clock) → isSixty c ≡ true → c .seconds % secondsPerDay ≡ lastSecondOfDay
+sixty-last c e = eqb-true (c .seconds % secondsPerDay) lastSecondOfDay (and-true (eqb (c .status) statusOop) (eqb (c .seconds % secondsPerDay) lastSecondOfDay) e .1)
 
 pub clock-says : {c : Clock} {text : List ℕ} → WrittenFor c text → Says text (c .seconds) (isSixty c)
 clock-says {c} w = says (omega (arith, ok c (w .sound) .seconds)) (sixty-last c) (w .bytes)
@@ -55,14 +56,14 @@ clockAt s sixty =
       status = cond sixty statusOop statusBad;
     }
 
-module _ (s : ℕ) (h : s < 4294967296) where
+module _ (s : ℕ) (h : s ≤ lastSecond) where
   clock-sound : (sixty : Bool) → inRange (clockAt s sixty) ≡ true
   unfolding inRange
   clock-sound true = rw (le-leb s lastSecond (omega arith))
   clock-sound false = rw (le-leb s lastSecond (omega arith))
 
-  clock-sixty : (sixty : Bool) → (sixty ≡ true → s % 86400 ≡ 86399) → isSixty (clockAt s sixty) ≡ sixty
-  clock-sixty true l = eq-eqb (s % 86400) 86399 (l refl)
+  clock-sixty : (sixty : Bool) → (sixty ≡ true → s % secondsPerDay ≡ lastSecondOfDay) → isSixty (clockAt s sixty) ≡ sixty
+  clock-sixty true l = eq-eqb (s % secondsPerDay) lastSecondOfDay (l refl)
   clock-sixty false l = refl
 
 -- ---- the answers
@@ -74,7 +75,7 @@ abbrev pub noLabel : Answer
 noLabel = record { refusal = 15; seconds = 0; sixty = false }
 
 -- bytes that are the label of a second are accepted
-pub accepts : {text : List ℕ} (s : ℕ) (sixty : Bool) → s < 4294967296 → (sixty ≡ true → s % 86400 ≡ 86399) → text ≡ labelOf s sixty
+pub accepts : {text : List ℕ} (s : ℕ) (sixty : Bool) → s ≤ lastSecond → (sixty ≡ true → s % secondsPerDay ≡ lastSecondOfDay) → text ≡ labelOf s sixty
     → ReadsAs text (label s sixty)
 accepts {text} s sixty h l e =
     let same = clock-sixty s h sixty l in
@@ -102,39 +103,49 @@ module _ {d e : Date} (w : AlikeDate d e) where
 
 -- ---- the tests
 
--- a day and a second of it that are not past the last second
-pub in-time : {d : Date} {n h m s t : ℕ} {sixty : Bool} → FoundAs d (Day n) → ShownBy h m s (At t sixty)
-    → eqb n 49710 && ltb 23295 t ≡ false → 86400 * n + t < 4294967296
-in-time {n = n} {t = t} (found known e) (shown w) = by-day (eqb n 49710) refl
+-- the last second's day, and which of that day's seconds it is
+abbrev pub lastDay : ℕ
+lastDay = lastSecond / secondsPerDay
+
+abbrev pub lastDayEnd : ℕ
+lastDayEnd = lastSecond % secondsPerDay
+
+pub day-known : {d : Date} {n : ℕ} → FoundAs d (Day n) → n < days
+day-known (found known e) = known
+
+-- a day and a second of it that are not past the last second, where no later end is tested
+pub in-time : {d : Date} {n h m s t end : ℕ} {sixty : Bool} → FoundAs d (Day n) → ShownBy h m s (At t sixty)
+    → eqb n lastDay && ltb end t ≡ false → end ≤ lastDayEnd → secondsPerDay * n + t ≤ lastSecond
+in-time {n = n} {t = t} {end = end} (found known e) (shown w) f l = by-day (eqb n lastDay) refl f
   where
-    by-day : (last : Bool) → eqb n 49710 ≡ last → last && ltb 23295 t ≡ false → 86400 * n + t < 4294967296
-    by-day true e f = omega (arith, eqb-true n 49710 e, ltb-false 23295 t f)
-    by-day false e f = let early : n ≡ 49710 → ⊥ = eqb-false n 49710 e in omega (arith, known, w .within)
+    by-day : (last : Bool) → eqb n lastDay ≡ last → last && ltb end t ≡ false → secondsPerDay * n + t ≤ lastSecond
+    by-day true e f = omega (arith, eqb-true n lastDay e, ltb-false end t f)
+    by-day false e f = let early : n ≡ lastDay → ⊥ = eqb-false n lastDay e in omega (arith, known, w .within)
 
 module _ (text : List ℕ) where
-  pub not-twenty : (length text ≡ 20 → ⊥) → ReadsAs text noLabel
+  pub not-twenty : (length text ≡ labelSize → ⊥) → ReadsAs text noLabel
   not-twenty f = refuses (λ s sixty w. f (w .long))
 
   pub not-marked : isMarked text ≡ false → ReadsAs text noLabel
   not-marked f = refuses (λ s sixty w. true≢false (sym (w .marked) ∙ f))
 
   pub not-dated : FoundAs (dateAt text) NoDay → ReadsAs text noLabel
-  not-dated (none f) = refuses (λ s sixty w. f (s / 86400) (omega (arith, w .bound)) (w .date))
+  not-dated (none f) = refuses (λ s sixty w. f (s / secondsPerDay) (omega (arith, w .bound)) (w .date))
 
   pub not-timed : ShownBy (pairAt text 11) (pairAt text 14) (pairAt text 17) NoTime → ReadsAs text noLabel
-  not-timed (unshown f) = refuses (λ s sixty w. f (s % 86400) sixty (w .time))
+  not-timed (unshown f) = refuses (λ s sixty w. f (s % secondsPerDay) sixty (w .time))
 
   module _ (n t : ℕ) (sixty : Bool) where
-    pub too-late : FoundAs (dateAt text) (Day n) → ShownBy (pairAt text 11) (pairAt text 14) (pairAt text 17) (At t sixty)
-        → eqb n 49710 && ltb 23295 t ≡ true → ReadsAs text noLabel
-    too-late (found h e) (shown w) l =
-        let p = and-true (eqb n 49710) (ltb 23295 t) l in
+    pub too-late : {end : ℕ} → FoundAs (dateAt text) (Day n) → ShownBy (pairAt text 11) (pairAt text 14) (pairAt text 17) (At t sixty)
+        → eqb n lastDay && ltb end t ≡ true → lastDayEnd ≤ end → ReadsAs text noLabel
+    too-late {end} (found h e) (shown w) l late =
+        let p = and-true (eqb n lastDay) (ltb end t) l in
         refuses (λ s sixty′ w′.
-        let day : n ≡ s / 86400 = one-day n (s / 86400) (sym e ∙ w′ .date) in
-        omega (arith, day, eqb-true n 49710 (p .0), ltb-true 23295 t (p .1), shown-once w (w′ .time) .0, w′ .bound))
+        let day : n ≡ s / secondsPerDay = one-day n (s / secondsPerDay) (sym e ∙ w′ .date) in
+        omega (arith, day, eqb-true n lastDay (p .0), ltb-true end t (p .1), shown-once w (w′ .time) .0, w′ .bound))
 
-    pub is-label : length text ≡ 20 → isMarked text ≡ true → FoundAs (dateAt text) (Day n)
+    pub is-label : length text ≡ labelSize → isMarked text ≡ true → FoundAs (dateAt text) (Day n)
         → ShownBy (pairAt text 11) (pairAt text 14) (pairAt text 17) (At t sixty)
-        → 86400 * n + t < 4294967296 → ReadsAs text (label (86400 * n + t) sixty)
+        → secondsPerDay * n + t ≤ lastSecond → ReadsAs text (label (secondsPerDay * n + t) sixty)
     is-label long marked (found h e) (shown w) l =
-        accepts (86400 * n + t) sixty l (λ x. omega (arith, w .last x)) (written text long marked n t sixty h e w)
+        accepts (secondsPerDay * n + t) sixty l (λ x. omega (arith, w .last x)) (written text long marked n t sixty h e w)

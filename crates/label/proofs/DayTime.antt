@@ -1,15 +1,16 @@
 -- The second of a day that an hour, a minute and a second show: what the tests of `time_of` say, and that no two are shown alike.
 use mathlib.Core.Path.{_≡_, refl, sym, _∙_}
 use mathlib.Core.Bool.{Bool, true, false, true≢false, _&&_, _||_, cond}
-use Prim.Native.Nat.{ℕ, _+_, _*_, _/_, _%_, _≤_, _<_}
+use Prim.Native.Nat.{ℕ, _+_, _*_, _/_, _%_, _≤_, _<_, _-_}
 use native.Mathlib.Omega.{arith}
 use native.Mathlib.Nat.{div-div-eq-div-mul}
-use borrow.Author.Tests.{ltb-false, le-ltb, eqb-true, eq-eqb}
-use lib.Dec.{ltb, eqb}
+use borrow.Author.Tests.{eqb-true, eq-eqb, leb-false, lt-leb}
+use lib.Dec.{eqb, leb}
 use Rattle.integers.proofs.Ranges.{and-true}
 use Rattle.label.specs.declared.fields.Time.{Time}
 use Rattle.label.specs.declared.fields.Time.the-variants.{At, NoTime}
-use Rattle.label.specs.Steps.{Alike, Shows, ShownBy, shown, unshown}
+use Rattle.label.specs.Inner.{Alike, Shows, ShownBy, shown, unshown}
+use Rattle.label.specs.Label.{secondsPerMinute, minutesPerHour, hoursPerDay, secondsPerHour, lastSecondOfDay, insertedSecond}
 use Rattle.label.proofs.Digits.{alike-small, small-alike}
 
 or-false : (a b : Bool) → a || b ≡ false → (a ≡ false) × (b ≡ false)
@@ -18,8 +19,8 @@ or-false false b e = (refl, e)
 
 -- ---- no two are shown alike
 
-whole : (t h m : ℕ) → h ≡ t / 3600 → m ≡ t / 60 % 60 → 3600 * h + 60 * m + t % 60 ≡ t
-whole t h m p q = omega (arith, div-div-eq-div-mul t 60 60)
+whole : (t h m : ℕ) → h ≡ t / secondsPerHour → m ≡ t / secondsPerMinute % minutesPerHour → secondsPerHour * h + secondsPerMinute * m + t % secondsPerMinute ≡ t
+whole t h m p q = omega (arith, div-div-eq-div-mul t secondsPerMinute minutesPerHour)
 
 module _ {t t′ h m s : ℕ} where
   shown-once-by : (sixty sixty′ : Bool) → Shows t sixty h m s → Shows t′ sixty′ h m s → (t ≡ t′) × (sixty ≡ sixty′)
@@ -34,7 +35,7 @@ shown-once {sixty = x} {sixty′ = x′} w w′ = shown-once-by x x′ w w′
 
 -- ---- numbers that are alike show the same
 
-second-small : (t : ℕ) (sixty : Bool) → cond sixty 60 (t % 60) < 100
+second-small : (t : ℕ) (sixty : Bool) → cond sixty insertedSecond (t % secondsPerMinute) < 100
 second-small t true = omega arith
 second-small t false = omega arith
 
@@ -61,19 +62,23 @@ shown-alike p q r (unshown f) = unshown (λ t sixty w.
 
 -- ---- the tests
 
-pub minute-found : (h m : ℕ) → ltb 23 h || ltb 59 m ≡ false → (h ≤ 23) × (m ≤ 59)
-minute-found h m e = let p = or-false (ltb 23 h) (ltb 59 m) e in (ltb-false 23 h (p .0), ltb-false 59 m (p .1))
+-- the minute of a day at whose end a second can be inserted
+abbrev lastMinute : ℕ
+lastMinute = hoursPerDay * minutesPerHour - 1
+
+pub minute-found : (h m : ℕ) → leb hoursPerDay h || leb minutesPerHour m ≡ false → (h < hoursPerDay) × (m < minutesPerHour)
+minute-found h m e = let p = or-false (leb hoursPerDay h) (leb minutesPerHour m) e in (leb-false hoursPerDay h (p .0), leb-false minutesPerHour m (p .1))
 
 module _ (h m s : ℕ) where
-  pub no-minute : ltb 23 h || ltb 59 m ≡ true → ShownBy h m s NoTime
+  pub no-minute : leb hoursPerDay h || leb minutesPerHour m ≡ true → ShownBy h m s NoTime
   no-minute e = unshown (λ t sixty w.
       true≢false
-      (sym e ∙ rw (le-ltb 23 h (omega (arith, w .hour, w .within)), le-ltb 59 m (omega (arith, w .minute)))))
+      (sym e ∙ rw (lt-leb hoursPerDay h (omega (arith, w .hour, w .within)), lt-leb minutesPerHour m (omega (arith, w .minute)))))
 
-  module _ (minute : (h ≤ 23) × (m ≤ 59)) where
-    pub usual : s < 60 → ShownBy h m s (At (60 * (60 * h + m) + s) false)
+  module _ (minute : (h < hoursPerDay) × (m < minutesPerHour)) where
+    pub usual : s < secondsPerMinute → ShownBy h m s (At (secondsPerMinute * (minutesPerHour * h + m) + s) false)
     usual l =
-        shown {t = 60 * (60 * h + m) + s} {sixty = false} (record {
+        shown {t = secondsPerMinute * (minutesPerHour * h + m) + s} {sixty = false} (record {
           within = omega arith;
           last = λ e. absurd (true≢false (sym e));
           hour = omega arith;
@@ -81,23 +86,23 @@ module _ (h m s : ℕ) where
           second = omega arith;
         })
 
-    pub day-end : eqb s 60 && eqb (60 * h + m) 1439 ≡ true → ShownBy h m s (At 86399 true)
+    pub day-end : eqb s insertedSecond && eqb (minutesPerHour * h + m) lastMinute ≡ true → ShownBy h m s (At lastSecondOfDay true)
     day-end e =
-        let p = and-true (eqb s 60) (eqb (60 * h + m) 1439) e in
-        let last = eqb-true (60 * h + m) 1439 (p .1) in
-        shown {t = 86399} {sixty = true} (record {
+        let p = and-true (eqb s insertedSecond) (eqb (minutesPerHour * h + m) lastMinute) e in
+        let last = eqb-true (minutesPerHour * h + m) lastMinute (p .1) in
+        shown {t = lastSecondOfDay} {sixty = true} (record {
           within = omega arith;
           last = λ _. refl;
           hour = omega (arith, last);
           minute = omega (arith, last);
-          second = eqb-true s 60 (p .0);
+          second = eqb-true s insertedSecond (p .0);
         })
 
-    pub no-second : 60 ≤ s → eqb s 60 && eqb (60 * h + m) 1439 ≡ false → ShownBy h m s NoTime
+    pub no-second : secondsPerMinute ≤ s → eqb s insertedSecond && eqb (minutesPerHour * h + m) lastMinute ≡ false → ShownBy h m s NoTime
     no-second l e = unshown by-mark
       where
         by-mark : (t : ℕ) (sixty : Bool) → Shows t sixty h m s → ⊥
         by-mark t false w = omega (arith, w .second)
         by-mark t true w =
             true≢false
-            (sym (rw (eq-eqb s 60 (w .second), eq-eqb (60 * h + m) 1439 (omega (arith, w .last refl, w .hour, w .minute)))) ∙ e)
+            (sym (rw (eq-eqb s insertedSecond (w .second), eq-eqb (minutesPerHour * h + m) lastMinute (omega (arith, w .last refl, w .hour, w .minute)))) ∙ e)

@@ -1,6 +1,6 @@
 -- Laws of decimal digits: written and read back.
 use mathlib.Core.Path.{_≡_, refl, sym, _∙_}
-use mathlib.Core.Bool.{Bool, true, false, _&&_}
+use mathlib.Core.Bool.{Bool, true, false}
 use mathlib.Core.Logic.{_⊎_, inl, inr, ⊎-elim}
 use Prim.Native.Nat.{ℕ, _+_, _*_, _-_, _/_, _%_, _^_, _≤_, _<_}
 use native.Mathlib.Omega.{arith}
@@ -8,8 +8,8 @@ use native.Mathlib.Nat.{div-div-eq-div-mul}
 use borrow.Author.Tests.{leb-true, le-leb, ltb-true, ltb-false}
 use lib.Dec.{leb, ltb}
 use Rattle.integers.proofs.Ranges.{and-true}
-use Rattle.label.specs.Label.{digit}
-use Rattle.label.specs.Steps.{isDigit, pairOf, Alike, same, large}
+use Rattle.label.specs.Label.{digit, digitZero}
+use Rattle.label.specs.Inner.{isDigit, pairOf, Alike, same, large, noPair}
 
 -- ---- the last two digits of a longer number
 
@@ -21,38 +21,41 @@ units-of-year n = omega arith
 
 -- ---- pairs
 
-digit-true : (b : ℕ) → 48 ≤ b → b ≤ 57 → isDigit b ≡ true
-digit-true b p q = rw (le-leb 48 b p, le-leb b 57 q)
+abbrev IsDigit : ℕ → Type 0
+IsDigit b = (digitZero ≤ b) × (b ≤ digitZero + 9)
+
+digit-true : (b : ℕ) → IsDigit b → isDigit b ≡ true
+digit-true b p = rw (le-leb digitZero b (p .0), le-leb b (digitZero + 9) (p .1))
 
 -- a pair of digits, and what it reads as
 pub record Pair (a b : ℕ) : Type 0 where
-  pub tens : (48 ≤ a) × (a ≤ 57)
-  pub units : (48 ≤ b) × (b ≤ 57)
-  pub number : pairOf a b ≡ 10 * (a - 48) + (b - 48)
+  pub tens : IsDigit a
+  pub units : IsDigit b
+  pub number : pairOf a b ≡ 10 * (a - digitZero) + (b - digitZero)
 
 module _ (a b : ℕ) where
-  pub pair-digits : (48 ≤ a) × (a ≤ 57) → (48 ≤ b) × (b ≤ 57) → pairOf a b ≡ 10 * (a - 48) + (b - 48)
+  pub pair-digits : IsDigit a → IsDigit b → pairOf a b ≡ 10 * (a - digitZero) + (b - digitZero)
   unfolding pairOf
-  pair-digits p q = rw (digit-true a (p .0) (p .1), digit-true b (q .0) (q .1))
+  pair-digits p q = rw (digit-true a p, digit-true b q)
 
   -- two bytes are digits, or read as 10,000
-  pub pair-either : Pair a b ⊎ (pairOf a b ≡ 10000)
+  pub pair-either : Pair a b ⊎ (pairOf a b ≡ noPair)
   unfolding pairOf
   pair-either = by-test (isDigit a) refl (isDigit b) refl
     where
-      within : (x : ℕ) → isDigit x ≡ true → (48 ≤ x) × (x ≤ 57)
-      within x e = let p = and-true (leb 48 x) (leb x 57) e in (leb-true 48 x (p .0), leb-true x 57 (p .1))
+      within : (x : ℕ) → isDigit x ≡ true → IsDigit x
+      within x e = let p = and-true (leb digitZero x) (leb x (digitZero + 9)) e in (leb-true digitZero x (p .0), leb-true x (digitZero + 9) (p .1))
 
-      by-test : (s : Bool) → isDigit a ≡ s → (t : Bool) → isDigit b ≡ t → Pair a b ⊎ (pairOf a b ≡ 10000)
+      by-test : (s : Bool) → isDigit a ≡ s → (t : Bool) → isDigit b ≡ t → Pair a b ⊎ (pairOf a b ≡ noPair)
       by-test true p true q =
           inl (record { tens = within a p; units = within b q; number = pair-digits (within a p) (within b q) })
       by-test true p false q = inr (rw (p, q))
       by-test false p t q = inr (rw p)
 
-  pair-most : pairOf a b ≤ 10000
-  pair-most = ⊎-elim (λ (p : Pair a b). omega (arith, p .number)) (λ (e : pairOf a b ≡ 10000). omega arith) pair-either
+  pair-most : pairOf a b ≤ noPair
+  pair-most = ⊎-elim (λ (p : Pair a b). omega (arith, p .number)) (λ (e : pairOf a b ≡ noPair). omega arith) pair-either
 
-  pub bounded : {r : ℕ} → r ≡ pairOf a b → r ≤ 10000
+  pub bounded : {r : ℕ} → r ≡ pairOf a b → r ≤ noPair
   bounded e = rw e pair-most
 
   -- two digits that were written read as the number
@@ -60,36 +63,36 @@ module _ (a b : ℕ) where
   pair-of-two v h p q = pair-digits (omega arith, omega arith) (omega arith, omega arith) ∙ omega arith
 
   -- two bytes that read as less than 10,000 are the digits of what they read as
-  pub two-of-pair : pairOf a b < 10000 → (pairOf a b < 100) × (a ≡ digit (pairOf a b / 10)) × (b ≡ digit (pairOf a b))
+  pub two-of-pair : pairOf a b < noPair → (pairOf a b < 100) × (a ≡ digit (pairOf a b / 10)) × (b ≡ digit (pairOf a b))
   two-of-pair h =
       ⊎-elim
       (λ (p : Pair a b). (omega (arith, p .number), omega (arith, p .number), omega (arith, p .number)))
-      (λ (e : pairOf a b ≡ 10000). absurd (omega arith))
+      (λ (e : pairOf a b ≡ noPair). absurd (omega arith))
       pair-either
 
 -- a difference that is not negative wraps to itself
 unwrapped : (x k v : ℕ) → x < 2 ^ 32 → k ≤ v → (x + k) % 2 ^ 32 ≡ v → x + k ≡ v
 unwrapped x k v h l e = omega arith
 
--- what `pair` computes: u is b - 48 and n is 10 a + u - 480, both wrapped at 2 ^ 32
-module _ (a b u : ℕ) (hb : b < 256) (hu : u < 2 ^ 32) (eu : (u + 48) % 2 ^ 32 ≡ b) where
-  pub pair-refused : 9 < u → Alike 10000 (pairOf a b)
-  pair-refused h = ⊎-elim (λ (p : Pair a b). absurd (omega (arith, p .units))) (λ (e : pairOf a b ≡ 10000). same (sym e)) (pair-either a b)
+-- what `pair` computes: u is b less the digit 0, and n is 10 a + u less ten of it, both wrapped at 2 ^ 32
+module _ (a b u : ℕ) (hb : b < 256) (hu : u < 2 ^ 32) (eu : (u + digitZero) % 2 ^ 32 ≡ b) where
+  pub pair-refused : 9 < u → Alike noPair (pairOf a b)
+  pair-refused h = ⊎-elim (λ (p : Pair a b). absurd (omega (arith, p .units))) (λ (e : pairOf a b ≡ noPair). same (sym e)) (pair-either a b)
 
-  module _ (n : ℕ) (ha : a < 256) (hn : n < 2 ^ 32) (en : (n + 480) % 2 ^ 32 ≡ 10 * a + u) (small : u ≤ 9) where
-    unit : u + 48 ≡ b
+  module _ (n : ℕ) (ha : a < 256) (hn : n < 2 ^ 32) (en : (n + 10 * digitZero) % 2 ^ 32 ≡ 10 * a + u) (small : u ≤ 9) where
+    unit : u + digitZero ≡ b
     unit = omega arith
 
     pub pair-read : Alike n (pairOf a b)
     pair-read =
         ⊎-elim
         (λ (p : Pair a b).
-        let whole : n + 480 ≡ 10 * a + u = unwrapped n 480 (10 * a + u) hn (omega (arith, p .tens)) en in
+        let whole : n + 10 * digitZero ≡ 10 * a + u = unwrapped n (10 * digitZero) (10 * a + u) hn (omega (arith, p .tens)) en in
         same (omega (arith, unit, p .tens, p .number)))
-        (λ (e : pairOf a b ≡ 10000). by-size (ltb n 100) refl e)
+        (λ (e : pairOf a b ≡ noPair). by-size (ltb n 100) refl e)
         (pair-either a b)
       where
-        by-size : (t : Bool) → ltb n 100 ≡ t → pairOf a b ≡ 10000 → Alike n (pairOf a b)
+        by-size : (t : Bool) → ltb n 100 ≡ t → pairOf a b ≡ noPair → Alike n (pairOf a b)
         by-size true l e =
             let below : n < 100 = ltb-true n 100 l in
             absurd (omega (arith, unit, e, pair-digits a b (omega (arith, unit), omega (arith, unit)) (omega (arith, unit), omega (arith, unit))))
@@ -106,7 +109,7 @@ small-alike (same e) h = e
 small-alike (large p q) h = absurd (omega arith)
 
 -- what `bounded_pair` makes of it
-pub pair-kept : (a b : ℕ) {n : ℕ} → Alike n (pairOf a b) → 100 ≤ n → 10000 ≡ pairOf a b
+pub pair-kept : (a b : ℕ) {n : ℕ} → Alike n (pairOf a b) → 100 ≤ n → noPair ≡ pairOf a b
 pair-kept a b w h =
     ⊎-elim
     (λ (p : Pair a b). absurd (omega (arith, small-alike w (omega (arith, p .tens, p .units, p .number)), p .number)))

@@ -1,6 +1,7 @@
 pub mod Digits
 pub mod Words
 pub mod Placed
+pub mod Room
 pub mod Parts
 pub mod DayTime
 pub mod Bytes

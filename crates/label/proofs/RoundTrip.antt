@@ -1,26 +1,27 @@
 -- The writer and the reader undo each other, and the reader accepts exactly the strings that the writer can write. The statements
 -- are over the definitions that the contracts of `write` and `read` name.
 use mathlib.Core.Path.{_≡_, refl, sym, ap, _∙_}
-use mathlib.Core.Bool.{Bool, true, false, not, cond, true≢false}
+use mathlib.Core.Bool.{Bool, true, false, true≢false}
 use mathlib.Core.Logic.{_↔_}
 use mathlib.Core.List.{List, [], _∷_, _++_}
-use Prim.Native.Nat.{ℕ, _/_, _<_}
+use Prim.Native.Nat.{ℕ, _+_, _/_, _<_}
 use native.Mathlib.Omega.{arith}
-use lib.Dec.{ltb}
-use lib.ListN.{length, take, drop}
+use lib.ListN.{take, drop}
 use lib.Seq.{take-at}
 use Rattle.clock.specs.declared.state.Clock.{Clock}
-use Rattle.clock.specs.State.{inRange}
+use Rattle.clock.specs.State.{lastSecond}
+use Rattle.clock.specs.Units.{secondsPerDay}
 use Rattle.calendar.proofs.Dates.{on, one-day}
 use Rattle.calendar.proofs.Closed.{date-right}
 use Rattle.label.specs.declared.Answer.{Answer}
-use Rattle.label.specs.Label.{labelOf, isSixty, clockLabel}
+use Rattle.label.specs.Label.{labelOf, isSixty, clockLabel, labelSize, lastSecondOfDay}
 use Rattle.label.specs.Writing.{writeRefusal, writtenTo}
 use Rattle.label.specs.Reading.{WrittenFor, ReadsAs, accepted, refused}
-use Rattle.label.specs.Steps.{Shows, pairOf, pairAt, dateAt}
+use Rattle.label.specs.Inner.{Shows, pairOf, pairAt, dateAt}
 use Rattle.label.proofs.Bytes.{Says}
 use Rattle.label.proofs.DayTime.{shown-once}
-use Rattle.label.proofs.Accept.{clock-says, label, noLabel}
+use Rattle.label.proofs.Room.{twenty, wrote}
+use Rattle.label.proofs.Accept.{clock-says, label, noLabel, lastDay, lastDayEnd}
 
 -- ---- the reader has one answer
 
@@ -30,7 +31,7 @@ pub same-second : {c c′ : Clock} {text : List ℕ} → WrittenFor c text → W
 same-second {c} {c′} w w′ =
     let says : Says _ (c .seconds) (isSixty c) = clock-says w in
     let says′ : Says _ (c′ .seconds) (isSixty c′) = clock-says w′ in
-    let day = one-day (c .seconds / 86400) (c′ .seconds / 86400) (sym (says .date) ∙ says′ .date) in
+    let day = one-day (c .seconds / secondsPerDay) (c′ .seconds / secondsPerDay) (sym (says .date) ∙ says′ .date) in
     let time = shown-once (says .time) (says′ .time) in
     (omega (arith, day, time .0), time .1)
 
@@ -42,37 +43,23 @@ one-answer (refused f) (refused g) = refl
 
 -- ---- written and read
 
--- a label has twenty bytes
-pub twenty : (s : ℕ) (sixty : Bool) → length (labelOf s sixty) ≡ 20
-unfolding labelOf
-twenty s sixty = refl
-
 -- what an accepted writing puts into the buffer
-pub in-buffer : (c : Clock) (out : List ℕ) → writeRefusal c out ≡ 0 → take 20 (writtenTo c out) ≡ clockLabel c
+pub in-buffer : (c : Clock) (out : List ℕ) → writeRefusal c out ≡ 0 → take labelSize (writtenTo c out) ≡ clockLabel c
 unfolding writtenTo
-in-buffer c out e = rw e (take-at (clockLabel c) (drop 20 out) 20 (twenty (c .seconds) (isSixty c)))
-
--- an accepted writing is of a clock in range
-pub wrote-sound : (c : Clock) (out : List ℕ) → writeRefusal c out ≡ 0 → inRange c ≡ true
-unfolding writeRefusal
-wrote-sound c out = by-test (inRange c)
-  where
-    by-test : (b : Bool) → _≡_ {A = ℕ} (cond (not b) 1 (cond (ltb (length out) 20) 14 0)) 0 → b ≡ true
-    by-test true e = refl
-    by-test false e = absurd (omega arith)
+in-buffer c out e = rw e (take-at (clockLabel c) (drop labelSize out) labelSize (twenty (c .seconds) (isSixty c)))
 
 -- what was written is read: the second, and whether it was a 60
-pub read-written : (c : Clock) (out : List ℕ) {r : Answer} → writeRefusal c out ≡ 0 → ReadsAs (take 20 (writtenTo c out)) r
+pub read-written : (c : Clock) (out : List ℕ) {r : Answer} → writeRefusal c out ≡ 0 → ReadsAs (take labelSize (writtenTo c out)) r
     → r ≡ label (c .seconds) (isSixty c)
-read-written c out e a = one-answer a (accepted (record { sound = wrote-sound c out e; bytes = in-buffer c out e }))
+read-written c out e a = one-answer a (accepted (record { sound = wrote c out e .0; bytes = in-buffer c out e }))
 
 -- what was read is written again, by every clock that shows the second read, with a 60 or without
 pub write-read : {text : List ℕ} {s : ℕ} {sixty : Bool} (c : Clock) (out : List ℕ) → ReadsAs text (label s sixty)
-    → c .seconds ≡ s → isSixty c ≡ sixty → writeRefusal c out ≡ 0 → writtenTo c out ≡ text ++ drop 20 out
+    → c .seconds ≡ s → isSixty c ≡ sixty → writeRefusal c out ≡ 0 → writtenTo c out ≡ text ++ drop labelSize out
 unfolding writtenTo
 write-read c out (accepted {c = d} w) p q e =
     let same : clockLabel c ≡ clockLabel d = ap (λ (s : ℕ). labelOf s (isSixty c)) p ∙ ap (labelOf (d .seconds)) q in
-    rw e (ap (λ (l : List ℕ). l ++ drop 20 out) (same ∙ sym (w .bytes)))
+    rw e (ap (λ (l : List ℕ). l ++ drop labelSize out) (same ∙ sym (w .bytes)))
 
 -- ---- the strings that are accepted
 
@@ -84,45 +71,45 @@ accepted-iff (refused f) = ((λ e. absurd (omega arith)), (λ p. absurd (f (p .0
 -- ---- examples of document 01
 
 -- 951,782,400 is 2000-02-29T00:00:00Z
-leap-day : labelOf 951782400 false ≡ 50 ∷ 48 ∷ 48 ∷ 48 ∷ 45 ∷ 48 ∷ 50 ∷ 45 ∷ 50 ∷ 57 ∷
-    84 ∷ 48 ∷ 48 ∷ 58 ∷ 48 ∷ 48 ∷ 58 ∷ 48 ∷ 48 ∷ 90 ∷ []
+pub leap-day : labelOf 951782400 false ≡ 0x32 ∷ 0x30 ∷ 0x30 ∷ 0x30 ∷ 0x2D ∷ 0x30 ∷ 0x32 ∷ 0x2D ∷ 0x32 ∷ 0x39 ∷
+    0x54 ∷ 0x30 ∷ 0x30 ∷ 0x3A ∷ 0x30 ∷ 0x30 ∷ 0x3A ∷ 0x30 ∷ 0x30 ∷ 0x5A ∷ []
 unfolding labelOf
 leap-day = rw (← date-right 11016 (omega arith))
 
 -- 4,294,967,295, the last second, is 2106-02-07T06:28:15Z
-last-label : labelOf 4294967295 false ≡ 50 ∷ 49 ∷ 48 ∷ 54 ∷ 45 ∷ 48 ∷ 50 ∷ 45 ∷ 48 ∷ 55 ∷
-    84 ∷ 48 ∷ 54 ∷ 58 ∷ 50 ∷ 56 ∷ 58 ∷ 49 ∷ 53 ∷ 90 ∷ []
+pub last-label : labelOf lastSecond false ≡ 0x32 ∷ 0x31 ∷ 0x30 ∷ 0x36 ∷ 0x2D ∷ 0x30 ∷ 0x32 ∷ 0x2D ∷ 0x30 ∷ 0x37 ∷
+    0x54 ∷ 0x30 ∷ 0x36 ∷ 0x3A ∷ 0x32 ∷ 0x38 ∷ 0x3A ∷ 0x31 ∷ 0x35 ∷ 0x5A ∷ []
 unfolding labelOf
-last-label = rw (← date-right 49710 (omega arith))
+last-label = rw (← date-right lastDay (omega arith))
 
 -- the inserted second of the first day is 1970-01-01T23:59:60Z
-inserted : labelOf 86399 true ≡ 49 ∷ 57 ∷ 55 ∷ 48 ∷ 45 ∷ 48 ∷ 49 ∷ 45 ∷ 48 ∷ 49 ∷
-    84 ∷ 50 ∷ 51 ∷ 58 ∷ 53 ∷ 57 ∷ 58 ∷ 54 ∷ 48 ∷ 90 ∷ []
+pub inserted : labelOf lastSecondOfDay true ≡ 0x31 ∷ 0x39 ∷ 0x37 ∷ 0x30 ∷ 0x2D ∷ 0x30 ∷ 0x31 ∷ 0x2D ∷ 0x30 ∷ 0x31 ∷
+    0x54 ∷ 0x32 ∷ 0x33 ∷ 0x3A ∷ 0x35 ∷ 0x39 ∷ 0x3A ∷ 0x36 ∷ 0x30 ∷ 0x5A ∷ []
 unfolding labelOf
 inserted = rw (← date-right 0 (omega arith))
 
 -- 7 February 2106 has no label past 06:28:15
 past-end : {text : List ℕ} {r : Answer} (t : ℕ) (sixty : Bool) → dateAt text ≡ on 2106 2 7
-    → Shows t sixty (pairAt text 11) (pairAt text 14) (pairAt text 17) → 23295 < t → ReadsAs text r → r ≡ noLabel
+    → Shows t sixty (pairAt text 11) (pairAt text 14) (pairAt text 17) → lastDayEnd < t → ReadsAs text r → r ≡ noLabel
 past-end {text} t sixty d w late a =
     one-answer a (refused (λ c w′.
     let y : Says text (c .seconds) (isSixty c) = clock-says w′ in
-    let day = one-day 49710 (c .seconds / 86400) (sym (date-right 49710 (omega arith)) ∙ sym d ∙ y .date) in
+    let day = one-day lastDay (c .seconds / secondsPerDay) (sym (date-right lastDay (omega arith)) ∙ sym d ∙ y .date) in
     omega (arith, day, shown-once w (y .time) .0, y .bound)))
 
 -- 2106-02-07T06:28:16Z, a second past the last label
-one-past : {r : Answer}
-    → ReadsAs (50 ∷ 49 ∷ 48 ∷ 54 ∷ 45 ∷ 48 ∷ 50 ∷ 45 ∷ 48 ∷ 55 ∷
-    84 ∷ 48 ∷ 54 ∷ 58 ∷ 50 ∷ 56 ∷ 58 ∷ 49 ∷ 54 ∷ 90 ∷ []) r → r ≡ noLabel
+pub one-past : {r : Answer}
+    → ReadsAs (0x32 ∷ 0x31 ∷ 0x30 ∷ 0x36 ∷ 0x2D ∷ 0x30 ∷ 0x32 ∷ 0x2D ∷ 0x30 ∷ 0x37 ∷
+    0x54 ∷ 0x30 ∷ 0x36 ∷ 0x3A ∷ 0x32 ∷ 0x38 ∷ 0x3A ∷ 0x31 ∷ 0x36 ∷ 0x5A ∷ []) r → r ≡ noLabel
 unfolding pairOf
 one-past =
-    past-end 23296 false refl
+    past-end (lastDayEnd + 1) false refl
     (record { within = omega arith; last = λ e. absurd (true≢false (sym e)); hour = refl; minute = refl; second = refl })
     (omega arith)
 
 -- 2106-02-07T23:59:60Z
-no-sixty : {r : Answer}
-    → ReadsAs (50 ∷ 49 ∷ 48 ∷ 54 ∷ 45 ∷ 48 ∷ 50 ∷ 45 ∷ 48 ∷ 55 ∷
-    84 ∷ 50 ∷ 51 ∷ 58 ∷ 53 ∷ 57 ∷ 58 ∷ 54 ∷ 48 ∷ 90 ∷ []) r → r ≡ noLabel
+pub no-sixty : {r : Answer}
+    → ReadsAs (0x32 ∷ 0x31 ∷ 0x30 ∷ 0x36 ∷ 0x2D ∷ 0x30 ∷ 0x32 ∷ 0x2D ∷ 0x30 ∷ 0x37 ∷
+    0x54 ∷ 0x32 ∷ 0x33 ∷ 0x3A ∷ 0x35 ∷ 0x39 ∷ 0x3A ∷ 0x36 ∷ 0x30 ∷ 0x5A ∷ []) r → r ≡ noLabel
 unfolding pairOf
-no-sixty = past-end 86399 true refl (record { within = omega arith; last = λ _. refl; hour = refl; minute = refl; second = refl }) (omega arith)
+no-sixty = past-end lastSecondOfDay true refl (record { within = omega arith; last = λ _. refl; hour = refl; minute = refl; second = refl }) (omega arith)

@@ -1,16 +1,33 @@
 -- "UTC label": the twenty bytes of a second, and those of a clock.
 use mathlib.Core.Bool.{Bool, cond, _&&_}
 use mathlib.Core.List.{List, [], _∷_, _++_}
-use Prim.Native.Nat.{ℕ, _+_, _/_, _%_}
+use Prim.Native.Nat.{ℕ, _+_, _*_, _-_, _/_, _%_}
 use lib.Dec.{eqb}
+use Rattle.clock.specs.Units.{secondsPerDay}
+use Rattle.clock.specs.State.{statusOop}
+use Rattle.clock.specs.declared.state.Clock.{Clock}
 use Rattle.calendar.specs.declared.Date.{Date}
 use Rattle.calendar.specs.Calendar.{dateOf}
-use Rattle.clock.specs.declared.state.Clock.{Clock}
-use Rattle.clock.specs.State.{statusOop}
 
--- the last decimal digit of n, in ASCII
+-- the bytes of a label, in ASCII: the first of the ten digits, and - T : Z
+abbrev pub digitZero : ℕ
+digitZero = 0x30
+
+abbrev pub hyphen : ℕ
+hyphen = 0x2D
+
+abbrev pub letterT : ℕ
+letterT = 0x54
+
+abbrev pub colon : ℕ
+colon = 0x3A
+
+abbrev pub letterZ : ℕ
+letterZ = 0x5A
+
+-- the last decimal digit of n
 abbrev pub digit : ℕ → ℕ
-digit n = 48 + n % 10
+digit n = digitZero + n % 10
 
 -- the last two decimal digits of n, and the last four
 abbrev pub two : ℕ → List ℕ
@@ -19,19 +36,43 @@ two n = digit (n / 10) ∷ digit n ∷ []
 abbrev pub four : ℕ → List ℕ
 four n = two (n / 100) ++ two n
 
--- "Twenty bytes, `1970-01-01T00:00:00Z`": - is 45, T 84, : 58 and Z 90
+-- "Twenty bytes, `1970-01-01T00:00:00Z`"
+abbrev pub labelSize : ℕ
+labelSize = 20
+
 abbrev pub layout : Date → ℕ → ℕ → ℕ → List ℕ
 layout d hour minute second =
-    four (d .year) ++ (45 ∷ two (d .month)) ++ (45 ∷ two (d .day))
-    ++ (84 ∷ two hour) ++ (58 ∷ two minute) ++ (58 ∷ two second) ++ (90 ∷ [])
+    four (d .year) ++ (hyphen ∷ two (d .month)) ++ (hyphen ∷ two (d .day))
+    ++ (letterT ∷ two hour) ++ (colon ∷ two minute) ++ (colon ∷ two second) ++ (letterZ ∷ [])
 
--- the label of a second since 1970, whose last two digits are 60 where that is said: such a second repeats the 59 before it
+abbrev pub secondsPerMinute : ℕ
+secondsPerMinute = 60
+
+abbrev pub minutesPerHour : ℕ
+minutesPerHour = 60
+
+abbrev pub hoursPerDay : ℕ
+hoursPerDay = 24
+
+abbrev pub secondsPerHour : ℕ
+secondsPerHour = minutesPerHour * secondsPerMinute
+
+abbrev pub lastSecondOfDay : ℕ
+lastSecondOfDay = secondsPerDay - 1
+
+-- what an inserted second reads: it repeats the 59 before it
+abbrev pub insertedSecond : ℕ
+insertedSecond = 60
+
+-- the label of a second since 1970, which reads 60 where that is said
 unfoldable pub labelOf : ℕ → Bool → List ℕ
-labelOf s sixty = layout (dateOf (s / 86400)) (s / 3600 % 24) (s / 60 % 60) (cond sixty 60 (s % 60))
+labelOf s sixty =
+    layout (dateOf (s / secondsPerDay)) (s / secondsPerHour % hoursPerDay) (s / secondsPerMinute % minutesPerHour)
+    (cond sixty insertedSecond (s % secondsPerMinute))
 
 -- "With status OOP and seconds mod 86,400 = 86,399 the second reads 60; OOP at any other second reads as usual"
 abbrev pub isSixty : Clock → Bool
-isSixty c = eqb (c .status) statusOop && eqb (c .seconds % 86400) 86399
+isSixty c = eqb (c .status) statusOop && eqb (c .seconds % secondsPerDay) lastSecondOfDay
 
 -- the label of a clock
 abbrev pub clockLabel : Clock → List ℕ

@@ -1,4 +1,4 @@
 pub mod Label
 pub mod Writing
 pub mod Reading
-pub mod Steps
+pub mod Inner

@@ -2,35 +2,45 @@
 // accepts exactly what `write` can write.
 mod fields;
 mod text;
+mod units;
 
 ghost use mathlib.Core.Path.{_≡_};
 ghost use mathlib.Core.Bool.{Bool};
-ghost use Rattle.label.specs.Writing.{writeRefusal, writtenTo};
+ghost use Rattle.label.specs.Writing.{writeRefusal, writtenTo, Readable};
 ghost use Rattle.label.specs.Reading.{ReadsAs};
 use crate::fields::Time;
+use crate::units::SECONDS_PER_DAY;
 use calendar::Found;
 use clock::state::Clock;
+use clock::state::LAST_SECOND;
+use clock::state::in_range;
 
-// The last second is one of the last day, at 06:28:15: second 23,295 of that day.
-const LAST_DAY: u32 = calendar::DAYS - 1;
+// Bytes of a label.
+const SIZE: usize = 20;
 
-const LAST_DAY_END: u32 = 23295;
+// The last second that the clock can tell: its day, and which of that day's seconds it is (06:28:15).
+const LAST_DAY: u32 = LAST_SECOND / SECONDS_PER_DAY;
+
+const LAST_DAY_END: u32 = LAST_SECOND % SECONDS_PER_DAY;
+
+// The status of a clock while an inserted second is in progress.
+const TIME_OOP: u8 = 3;
 
 // Writes the clock's label into the first twenty bytes of `out`, and leaves the later ones. Answers 0; or refusal 1 for a clock
 // out of range, then 14 for a buffer of fewer than twenty bytes, and leaves the buffer as it was.
 pub fn write(c: Clock, out: &mut [u8]) -> u8
-    ensures { λ r. ⌜ r ≡ writeRefusal c (now (out .entry)) ⌝ }
+    ensures { λ r. ⌜ (r ≡ writeRefusal c (now (out .entry))) × Readable r (now (out .entry)) (now (out .exit)) ⌝ }
     ensures { λ _. ⌜ now (out .exit) ≡ writtenTo c (now (out .entry)) ⌝ }
 {
-    if !clock::state::in_range(c) {
+    if !in_range(c) {
         return 1;
     }
-    if out.len() < 20 {
+    if out.len() < SIZE {
         return 14;
     }
     text::put_label(c.seconds, out);
-    // The second can read 60 while an inserted one is in progress (status OOP), which is rare.
-    if c.status == 3 {
+    // The second can read 60 while an inserted one is in progress, which is rare.
+    if c.status == TIME_OOP {
         text::put_sixty(c.seconds, out);
         return 0;
     }
@@ -58,7 +68,7 @@ fn not_a_label() -> Answer
 pub fn read(text: &[u8]) -> Answer
     ensures { λ r. ⌜ ReadsAs (now (text .entry)) r ⌝ }
 {
-    if text.len() != 20 {
+    if text.len() != SIZE {
         return not_a_label();
     }
     if !fields::is_marked(text) {
@@ -77,7 +87,7 @@ pub fn read(text: &[u8]) -> Answer
     }
     Answer {
         refusal: 0,
-        seconds: 86400 * day + second,
+        seconds: SECONDS_PER_DAY * day + second,
         sixty: sixty,
     }
 }

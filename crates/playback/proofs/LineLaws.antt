@@ -14,7 +14,7 @@ use Rattle.clock.specs.declared.outcome.Outcome.{Outcome}
 use Rattle.clock.proofs.Ok.{ok}
 use Rattle.label.specs.Label.{digit, isSixty, clockLabel}
 use Rattle.label.specs.Writing.{writeRefusal, writtenTo}
-use Rattle.label.proofs.RoundTrip.{twenty}
+use Rattle.label.proofs.Room.{twenty}
 use Rattle.history.specs.declared.Event.{Event}
 use Rattle.history.specs.declared.Event.the-variants.{Ticks, Setting, Request, Print}
 use Rattle.playback.specs.Lines.{refusedLine, logLine, printLine}

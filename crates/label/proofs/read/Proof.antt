@@ -2,8 +2,8 @@
 use mathlib.Core.Path.{sym, _∙_}
 use native.Mathlib.Omega.{arith}
 use borrow.Author.Tests.{not-true, not-false}
-use Rattle.label.proofs.Accept.{found-alike, not-twenty, not-marked, not-dated, not-timed, too-late, in-time, is-label}
 use borrow.Author.Needs.{needs}
+use Rattle.label.proofs.Accept.{found-alike, not-twenty, not-marked, not-dated, not-timed, day-known, too-late, in-time, is-label}
 use Rattle.label.proofs.read.Statement.{statement}
 use Rattle.label.proofs.read.Tie as tie
 
@@ -69,15 +69,12 @@ returns-5 c =
     let t = d .before .before .before .before .before in
     let day = found-alike (d .before .before .before .date-at .ensures) (rw (d .found .given .1) at (d .before .before .day-of .ensures)) in
     let time = rw (t .time .given .1) at (t .before .before .time-at .ensures) in
-    rw (c .not-a-label5 .ensures) (too-late _ _ _ _ day time (c .before .if3 .taken))
+    rw (c .not-a-label5 .ensures) (too-late _ _ _ _ day time (c .before .if3 .taken) (omega arith))
 
 mul-t12 : tie.Need-mul-t12
 mul-t12 c =
     let d = c .before .before in
-    let t = d .before .before .before .before .before in
-    let day = found-alike (d .before .before .before .date-at .ensures) (rw (d .found .given .1) at (d .before .before .day-of .ensures)) in
-    let time = rw (t .time .given .1) at (t .before .before .time-at .ensures) in
-    record { fits = omega (arith, in-time day time (c .if3 .left)) }
+    record { fits = omega (arith, day-known (rw (d .found .given .1) at (d .before .before .day-of .ensures))) }
 
 add-t13 : tie.Need-add-t13
 add-t13 c =
@@ -85,7 +82,7 @@ add-t13 c =
     let t = d .before .before .before .before .before in
     let day = found-alike (d .before .before .before .date-at .ensures) (rw (d .found .given .1) at (d .before .before .day-of .ensures)) in
     let time = rw (t .time .given .1) at (t .before .before .time-at .ensures) in
-    record { fits = omega (arith, in-time day time (c .if3 .left)) }
+    record { fits = omega (arith, in-time day time (c .if3 .left) (omega arith)) }
 
 returns-6 : tie.Need-returns-6
 returns-6 c =
@@ -95,7 +92,7 @@ returns-6 c =
     let time = rw (t .time .given .1) at (t .before .before .time-at .ensures) in
     let m = t .before .before .before in
     is-label _ _ _ _ (search needs) (sym (m .before .is-marked .ensures) ∙ not-false _ (m .if2 .left)) day time
-    (in-time day time (c .if3 .left))
+    (in-time day time (c .if3 .left) (omega arith))
 
 pub read-spec : {M : Type 1} → statement M
 read-spec =

@@ -3,7 +3,6 @@ use borrow.Author.Needs.{needs}
 use Rattle.label.proofs.Digits.{alike-small, pair-kept}
 use Rattle.label.proofs.fields.bounded_pair.Statement.{statement}
 use Rattle.label.proofs.fields.bounded_pair.Tie as tie
-use Rattle.label.proofs.fields.pair.Reads as pair-reads
 
 pair-requires : tie.Need-pair-requires
 pair-requires c κs = search needs

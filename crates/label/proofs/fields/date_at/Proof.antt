@@ -1,7 +1,7 @@
 -- `label::fields::date_at` meets its contract: each part is what its pairs of digits say.
 use native.Mathlib.Omega.{arith}
-use Rattle.label.proofs.Digits.{bounded}
 use borrow.Author.Needs.{needs}
+use Rattle.label.proofs.Digits.{bounded}
 use Rattle.label.proofs.fields.date_at.Statement.{statement}
 use Rattle.label.proofs.fields.date_at.Tie as tie
 

@@ -3,7 +3,6 @@ use borrow.Author.Needs.{needs}
 use Rattle.label.proofs.Digits.{pair-read, pair-refused}
 use Rattle.label.proofs.fields.pair.Statement.{statement}
 use Rattle.label.proofs.fields.pair.Tie as tie
-use Rattle.std.proofs.num.wrapping_sub_u32.Reads as wrapping-sub-u32-reads
 
 wrapping-sub-u32-requires : tie.Need-wrapping-sub-u32-requires
 wrapping-sub-u32-requires c κs = search needs

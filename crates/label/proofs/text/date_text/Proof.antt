@@ -7,10 +7,6 @@ use Rattle.label.proofs.Digits.{tens-of-year, units-of-year}
 use Rattle.label.proofs.Parts.{ranges-of, century-of}
 use Rattle.label.proofs.text.date_text.Statement.{statement}
 use Rattle.label.proofs.text.date_text.Tie as tie
-use Rattle.calendar.proofs.date_of_second.Reads as date-of-second-reads
-use Rattle.label.proofs.text.marked_pairs.Reads as marked-pairs-reads
-use Rattle.label.proofs.text.tens.Reads as tens-reads
-use Rattle.label.proofs.text.units.Reads as units-reads
 
 date-of-second-requires : tie.Need-date-of-second-requires
 date-of-second-requires c κs = search needs

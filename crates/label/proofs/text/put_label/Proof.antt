@@ -3,15 +3,13 @@ use Prim.Native.Nat.{_/_, _%_}
 use borrow.Author.Needs.{needs}
 use lib.ListN.{drop}
 use lib.Seq.{drop-drop}
+use Rattle.clock.specs.Units.{secondsPerDay}
 use Rattle.calendar.specs.Calendar.{dateOf}
-use Rattle.label.specs.Label.{labelOf}
-use Rattle.label.specs.Steps.{dateText, timeText}
+use Rattle.label.specs.Label.{labelOf, secondsPerMinute, minutesPerHour, hoursPerDay, secondsPerHour}
+use Rattle.label.specs.Inner.{dateText, timeText}
 use Rattle.label.proofs.Placed.{after}
 use Rattle.label.proofs.text.put_label.Statement.{statement}
 use Rattle.label.proofs.text.put_label.Tie as tie
-use Rattle.bytes.proofs.copy.Reads as copy-reads
-use Rattle.label.proofs.text.date_text.Reads as date-text-reads
-use Rattle.label.proofs.text.time_text.Reads as time-text-reads
 
 date-text-requires : tie.Need-date-text-requires
 date-text-requires c κs = search needs
@@ -53,7 +51,7 @@ returns c =
     let date = rw (c11 .date-text .ensures) at (c5 .before .before .before .copy .ensures .1) in
     let time = rw (c5 .time-text .ensures) at (c .before .before .copy2 .ensures .1) in
     rw (drop-drop 9 11 out) at
-    (after (dateText (dateOf (s / 86400))) (timeText (s / 3600 % 24) (s / 60 % 60) (s % 60)) (drop 11 out) date time)
+    (after (dateText (dateOf (s / secondsPerDay))) (timeText (s / secondsPerHour % hoursPerDay) (s / secondsPerMinute % minutesPerHour) (s % secondsPerMinute)) (drop 11 out) date time)
 
 pub put-label-spec : {M : Type 1} → statement M
 put-label-spec =

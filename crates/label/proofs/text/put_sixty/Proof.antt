@@ -5,6 +5,8 @@ use native.Mathlib.Omega.{arith}
 use borrow.Author.Needs.{needs}
 use borrow.Author.Tests.{eq-eqb, ne-eqb}
 use lib.ListN.{length-set}
+use Rattle.clock.specs.Units.{secondsPerDay}
+use Rattle.label.specs.Label.{lastSecondOfDay}
 use Rattle.label.proofs.text.put_sixty.Statement.{statement}
 use Rattle.label.proofs.text.put_sixty.Tie as tie
 
@@ -14,8 +16,8 @@ add-if1 c = search needs
 returns : tie.Need-returns
 returns c =
     let s = c .before .args .seconds in
-    let early : s % 86400 ≡ 86399 → ⊥ = λ e. c .if1 .taken (omega (arith, e)) in
-    simp (ne-eqb (s % 86400) 86399 early)
+    let early : s % secondsPerDay ≡ lastSecondOfDay → ⊥ = λ e. c .if1 .taken (omega (arith, e)) in
+    simp (ne-eqb (s % secondsPerDay) lastSecondOfDay early)
 
 slice-write-out : tie.Need-slice-write-out
 slice-write-out c = search needs
@@ -27,7 +29,7 @@ same-length : tie.Need-same-length
 same-length c = search needs
 
 returns-2 : tie.Need-returns-2
-returns-2 c = simp (eq-eqb (c .before .args .seconds % 86400) 86399 (omega (arith, c .if1 .left)))
+returns-2 c = simp (eq-eqb (c .before .args .seconds % secondsPerDay) lastSecondOfDay (omega (arith, c .if1 .left)))
 
 pub put-sixty-spec : {M : Type 1} → statement M
 put-sixty-spec =

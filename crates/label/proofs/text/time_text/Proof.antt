@@ -3,7 +3,6 @@ use borrow.Author.Needs.{needs}
 use Rattle.label.proofs.Parts.{hour-of, minute-of, second-of}
 use Rattle.label.proofs.text.time_text.Statement.{statement}
 use Rattle.label.proofs.text.time_text.Tie as tie
-use Rattle.label.proofs.text.marked_pairs.Reads as marked-pairs-reads
 
 cast-of-day : tie.Need-cast-of-day
 cast-of-day c = search needs

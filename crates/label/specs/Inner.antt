@@ -1,12 +1,13 @@
--- The steps of the writer and the reader, as the contracts of their private functions name them. No public promise rests on these.
+-- What is asked of the private routines of the writer and the reader. No public promise rests on these.
 use mathlib.Core.Path.{_≡_}
 use mathlib.Core.Bool.{Bool, true, cond, _&&_}
 use mathlib.Core.List.{List, [], _∷_, _++_}
 use Prim.Native.Nat.{ℕ, _+_, _*_, _-_, _/_, _%_, _≤_, _<_}
 use lib.Dec.{leb, eqb}
 use lib.ListN.{getD}
+use Rattle.clock.specs.Units.{secondsPerDay}
 use Rattle.calendar.specs.declared.Date.{Date}
-use Rattle.label.specs.Label.{two, four}
+use Rattle.label.specs.Label.{digitZero, hyphen, letterT, colon, letterZ, two, four, secondsPerMinute, minutesPerHour, secondsPerHour, lastSecondOfDay, insertedSecond}
 use Rattle.label.specs.declared.fields.Time.{Time}
 use Rattle.label.specs.declared.fields.Time.the-variants.{At, NoTime}
 
@@ -14,19 +15,23 @@ use Rattle.label.specs.declared.fields.Time.the-variants.{At, NoTime}
 
 -- a label's date with the T, and its time of day with the Z
 abbrev pub dateText : Date → List ℕ
-dateText d = four (d .year) ++ (45 ∷ two (d .month)) ++ (45 ∷ two (d .day)) ++ (84 ∷ [])
+dateText d = four (d .year) ++ (hyphen ∷ two (d .month)) ++ (hyphen ∷ two (d .day)) ++ (letterT ∷ [])
 
 abbrev pub timeText : ℕ → ℕ → ℕ → List ℕ
-timeText hour minute second = two hour ++ (58 ∷ two minute) ++ (58 ∷ two second) ++ (90 ∷ [])
+timeText hour minute second = two hour ++ (colon ∷ two minute) ++ (colon ∷ two second) ++ (letterZ ∷ [])
 
 -- ---- the reader
 
 abbrev pub isDigit : ℕ → Bool
-isDigit b = leb 48 b && leb b 57
+isDigit b = leb digitZero b && leb b (digitZero + 9)
 
--- the number of two digits; 10,000, more than any four digits say, where a byte is none
+-- more than any four digits say
+abbrev pub noPair : ℕ
+noPair = 10000
+
+-- the number of two digits, if both bytes are digits
 unfoldable pub pairOf : ℕ → ℕ → ℕ
-pairOf tens units = cond (isDigit tens && isDigit units) (10 * (tens - 48) + (units - 48)) 10000
+pairOf tens units = cond (isDigit tens && isDigit units) (10 * (tens - digitZero) + (units - digitZero)) noPair
 
 -- the same number, or two that are both too large for two digits
 pub data Alike (m n : ℕ) : Type 0 where
@@ -39,12 +44,12 @@ pairAt text i = pairOf (getD text i 0) (getD text (i + 1) 0)
 -- the six bytes between the digits
 abbrev pub isMarked : List ℕ → Bool
 isMarked text =
-    eqb (getD text 4 0) 45
-    && eqb (getD text 7 0) 45
-    && eqb (getD text 10 0) 84
-    && eqb (getD text 13 0) 58
-    && eqb (getD text 16 0) 58
-    && eqb (getD text 19 0) 90
+    eqb (getD text 4 0) hyphen
+    && eqb (getD text 7 0) hyphen
+    && eqb (getD text 10 0) letterT
+    && eqb (getD text 13 0) colon
+    && eqb (getD text 16 0) colon
+    && eqb (getD text 19 0) letterZ
 
 -- the date that the digits say, if they are digits
 abbrev pub dateAt : List ℕ → Date
@@ -57,11 +62,11 @@ pub record AlikeDate (d e : Date) : Type 0 where
 
 -- the second t of a day, with a 60 or without, shows this hour, minute and second
 pub record Shows (t : ℕ) (sixty : Bool) (h m s : ℕ) : Type 0 where
-  pub within : t < 86400
-  pub last : sixty ≡ true → t ≡ 86399
-  pub hour : h ≡ t / 3600
-  pub minute : m ≡ t / 60 % 60
-  pub second : s ≡ cond sixty 60 (t % 60)
+  pub within : t < secondsPerDay
+  pub last : sixty ≡ true → t ≡ lastSecondOfDay
+  pub hour : h ≡ t / secondsPerHour
+  pub minute : m ≡ t / secondsPerMinute % minutesPerHour
+  pub second : s ≡ cond sixty insertedSecond (t % secondsPerMinute)
 
 -- the second of the day that shows this hour, minute and second, or that none does
 pub data ShownBy (h m s : ℕ) : Time → Type 0 where
