@@ -4,16 +4,16 @@ use crate::sum::mix_clock;
 use crate::values::begun;
 use crate::values::number_at;
 use crate::values::numbers;
-use clock::outcome::Outcome;
-use clock::state::Clock;
-use clock::tick::tick;
-use clock::units::AskedMicros;
+use clock::AskedMicros;
+use clock::Clock;
+use clock::Outcome;
+use clock::run_ticks;
+use clock::tick;
 use number::unmap;
-use request::request::Request;
-use request::request::adjust;
-use request::units::AskedFrequency;
-use request::units::AskedOffset;
-use ticks::run_ticks;
+use request::AskedFrequency;
+use request::AskedOffset;
+use request::Request;
+use request::adjust;
 
 // One tick, or n of them in one call.
 fn ticked(c: Clock, n: u64) -> Outcome {

@@ -2,8 +2,8 @@
 ghost use mathlib.Core.Path.{_≡_};
 ghost use lib.ListN.{length};
 use crate::sum::mix;
-use clock::state::Clock;
-use clock::state::fresh;
+use clock::Clock;
+use clock::fresh;
 
 // Some thirty days and a few hours: from one label's second to the next one's.
 const STEP: u64 = 2654435;

@@ -6,10 +6,10 @@ use crate::sum::mix;
 use crate::sum::mix_clock;
 use crate::values::numbers;
 use crate::values::small;
-use clock::state::Clock;
-use clock::state::fresh;
-use clock::units::Micros;
-use clock::units::PhaseUnits;
+use clock::Clock;
+use clock::Micros;
+use clock::PhaseUnits;
+use clock::fresh;
 use record::Saved;
 
 fn wide(b: u8) -> u64 {

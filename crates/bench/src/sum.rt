@@ -1,6 +1,6 @@
 // The checksum of an operation's results.
-use clock::state::Clock;
-use clock::units::Micros;
+use clock::Clock;
+use clock::Micros;
 use number::map;
 
 // One result more: 31 times the checksum's low 58 bits, and the result's low 32 bits added.

@@ -1,10 +1,10 @@
 // What the operations work on, taken from memory as the program runs: so the compiler cannot know what is in range.
 ghost use Prim.Native.Nat.{_<_};
-use clock::state::Clock;
-use clock::units::Frequency;
-use clock::units::Micros;
-use clock::units::OffsetUnits;
-use clock::units::PhaseUnits;
+use clock::Clock;
+use clock::Frequency;
+use clock::Micros;
+use clock::OffsetUnits;
+use clock::PhaseUnits;
 
 // The numbers 0 to 63.
 pub(crate) fn numbers() -> [u64; 64] {

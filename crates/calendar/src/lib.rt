@@ -9,7 +9,7 @@ ghost use Prim.Native.Nat.{_/_};
 ghost use Rattle.clock.specs.Units.{secondsPerDay};
 ghost use Rattle.calendar.specs.Calendar.{dateOf};
 ghost use Rattle.calendar.specs.Search.{FoundAs};
-use clock::state::LAST_SECOND;
+use clock::LAST_SECOND;
 
 const SECONDS_PER_DAY: u32 = 86400;
 

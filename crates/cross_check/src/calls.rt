@@ -11,8 +11,8 @@ use crate::rules::State;
 use crate::rules::fresh;
 use crate::rules::shown;
 use crate::signed::pick;
-use clock::units::AskedMicros;
-use event::event::Event;
+use clock::AskedMicros;
+use event::Event;
 
 // The refusal that the second implementation gave, and whether the first gave the same answer.
 pub(crate) struct Verdict {
@@ -33,7 +33,7 @@ fn event_of(row: &[u64; 13], case: u64) -> Event {
 
 // An event, where the second has answered `a`.
 fn stepped(s: State, row: &[u64; 13], case: u64, a: Answer) -> bool {
-    let e = event::event::step(clock_of(s), event_of(row, case));
+    let e = event::step(clock_of(s), event_of(row, case));
     let mut same = same_byte(a.refusal, e.refusal);
     same = same & same_clock(a.state, e.clock);
     same & same_reading(shown(a, row[0]), e.reading)

@@ -3,16 +3,16 @@ use crate::random::Asked;
 use crate::rules::State;
 use crate::signed::minus;
 use crate::signed::unmapped;
-use clock::reading::Reading;
-use clock::state::Clock;
-use clock::units::AskedMicros;
-use clock::units::Frequency;
-use clock::units::Micros;
-use clock::units::OffsetUnits;
-use clock::units::PhaseUnits;
-use request::request::Request;
-use request::units::AskedFrequency;
-use request::units::AskedOffset;
+use clock::AskedMicros;
+use clock::Clock;
+use clock::Frequency;
+use clock::Micros;
+use clock::OffsetUnits;
+use clock::PhaseUnits;
+use clock::Reading;
+use request::AskedFrequency;
+use request::AskedOffset;
+use request::Request;
 
 fn byte(n: u64) -> u8 {
     (n % 256) as u8

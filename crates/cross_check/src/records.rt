@@ -11,7 +11,7 @@ use crate::rules::fits;
 use crate::rules::fresh;
 use crate::rules::row_of;
 use crate::signed::pick;
-use clock::state::Clock;
+use clock::Clock;
 use number::Written;
 
 // All thirteen numbers.

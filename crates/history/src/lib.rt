@@ -4,18 +4,18 @@ ghost use Prim.Native.Nat.{_%_, _<_};
 ghost use Rattle.number.specs.Reading.{told as Number·told};
 ghost use Rattle.history.specs.Event.{told, offsetAsked, frequencyAsked, fieldAt, ticksAt, settingAt, requestAt, eventAt};
 ghost use Rattle.history.specs.Inner.{refusedAs};
-use clock::units::AskedMicros;
+use clock::AskedMicros;
 use number::Decoded;
 use number::unmap;
-use request::request::ADJ_ESTERROR;
-use request::request::ADJ_FREQUENCY;
-use request::request::ADJ_MAXERROR;
-use request::request::ADJ_OFFSET;
-use request::request::ADJ_STATUS;
-use request::request::ADJ_TIMECONST;
-use request::request::Request;
-use request::units::AskedFrequency;
-use request::units::AskedOffset;
+use request::ADJ_ESTERROR;
+use request::ADJ_FREQUENCY;
+use request::ADJ_MAXERROR;
+use request::ADJ_OFFSET;
+use request::ADJ_STATUS;
+use request::ADJ_TIMECONST;
+use request::AskedFrequency;
+use request::AskedOffset;
+use request::Request;
 
 // An event of a history.
 pub enum Event {

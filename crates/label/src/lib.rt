@@ -11,9 +11,9 @@ ghost use Rattle.label.specs.Reading.{ReadsAs};
 use crate::fields::Time;
 use crate::units::SECONDS_PER_DAY;
 use calendar::Found;
-use clock::state::Clock;
-use clock::state::LAST_SECOND;
-use clock::state::in_range;
+use clock::Clock;
+use clock::LAST_SECOND;
+use clock::in_range;
 
 // Bytes of a label.
 const SIZE: usize = 20;

@@ -11,7 +11,7 @@ use Rattle.request.specs.Request.{requestRefusal, requestOf}
 use Rattle.number.specs.Reading.{leadingMore, valueOf, judged, numberAt}
 use Rattle.number.specs.Mapping.{unmapped}
 use Rattle.label.specs.Label.{labelOf}
-use Rattle.ticks.specs.Ticks.{ticksOf}
+use Rattle.clock.specs.Ticks.{ticksOf}
 use Rattle.history.specs.Event.{then, fieldAt, ticksAt, requestAt, argumentsAt, eventAt}
 use Rattle.playback.specs.Lines.{decimalFrom, decimal, refusedLine, logLine, printLine}
 use Rattle.playback.specs.Event.{outcomeOf, printed, lineOf}

@@ -10,7 +10,7 @@ use Rattle.clock.specs.declared.outcome.Outcome.{Outcome}
 use Rattle.request.specs.Request.{requestOf}
 use Rattle.history.specs.declared.Event.{Event}
 use Rattle.history.specs.declared.Event.the-variants.{Ticks, Setting, Request, Print}
-use Rattle.ticks.specs.Ticks.{ticksOf}
+use Rattle.clock.specs.Ticks.{ticksOf}
 use Rattle.playback.specs.Lines.{refusedLine, printLine}
 
 -- the refusal of an event, or 0, and the clock after it; a print is a reading, which does not change the clock

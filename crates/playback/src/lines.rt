@@ -9,7 +9,7 @@ ghost use Rattle.label.specs.Label.{digit as Label·digit};
 ghost use Rattle.playback.specs.Lines.{decimal, refusedLine, logLine, printLine};
 ghost use Rattle.playback.specs.Filling.{longestLine};
 ghost use Rattle.playback.specs.Inner.{Puts};
-use clock::state::Clock;
+use clock::Clock;
 
 // Writes a text from `at` on, and gives the place after it.
 fn put(out: &mut [u8], at: usize, text: &[u8]) -> usize

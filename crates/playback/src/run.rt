@@ -10,14 +10,14 @@ ghost use Rattle.playback.specs.Inner.{isPrint, RunsEvent, endedAt, Step
 use crate::lines::put_log;
 use crate::lines::put_print;
 use crate::lines::put_refused;
-use clock::outcome::Outcome;
-use clock::setting::set;
-use clock::state::Clock;
-use clock::state::fresh;
+use clock::Clock;
+use clock::Outcome;
+use clock::fresh;
+use clock::run_ticks;
+use clock::set;
 use history::Entry;
 use history::Event;
-use request::request::adjust;
-use ticks::run_ticks;
+use request::adjust;
 
 // The longest history, in bytes.
 pub const LONGEST: usize = 65536;
@@ -53,7 +53,7 @@ fn outcome_of(c: Clock, e: Event) -> Outcome
         Event::Setting(seconds, micros) => set(c, seconds, micros),
         Event::Request(r) => adjust(c, r),
         Event::Print => {
-            let told = clock::reading::read(c);
+            let told = clock::read(c);
             Outcome {
                 refusal: told.refusal,
                 clock: c,

@@ -3,11 +3,11 @@
 ghost use mathlib.Core.Path.{_≡_};
 ghost use Rattle.record.specs.Layout.{clockOf};
 use crate::field::unmapped_of;
-use clock::state::Clock;
-use clock::units::Frequency;
-use clock::units::Micros;
-use clock::units::OffsetUnits;
-use clock::units::PhaseUnits;
+use clock::Clock;
+use clock::Frequency;
+use clock::Micros;
+use clock::OffsetUnits;
+use clock::PhaseUnits;
 
 pub(crate) struct Time {
     pub seconds: u32,

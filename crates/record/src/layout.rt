@@ -1,7 +1,7 @@
 // What a record holds: the version, and the numbers in their order.
 ghost use mathlib.Core.Path.{_≡_};
 ghost use Rattle.record.specs.Layout.{numbersOf};
-use clock::state::Clock;
+use clock::Clock;
 
 // The version that is written, and the only one that is read.
 pub(crate) const VERSION: u32 = 1;

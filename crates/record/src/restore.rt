@@ -14,27 +14,27 @@ use crate::groups::Rate;
 use crate::groups::Time;
 use crate::groups::Update;
 use crate::groups::clock_of;
-use clock::device::RECORDER;
-use clock::state::Clock;
-use clock::state::LAST_MICRO;
-use clock::state::LAST_SECOND;
-use clock::state::MAX_CONSTANT;
-use clock::state::MAX_ERROR;
-use clock::state::MAX_FREQUENCY;
-use clock::state::MAX_OFFSET;
-use clock::state::PHASE_BELOW;
-use clock::state::TIME_BAD;
-use clock::state::fresh;
+use clock::Clock;
+use clock::LAST_MICRO;
+use clock::LAST_SECOND;
+use clock::MAX_CONSTANT;
+use clock::MAX_ERROR;
+use clock::MAX_FREQUENCY;
+use clock::MAX_OFFSET;
+use clock::PHASE_UPPER_END;
+use clock::RECORDER_256;
+use clock::TIME_BAD;
+use clock::fresh;
 
 // The greatest numbers that the signed fields are mapped to. But for the adjustment's, their ranges are as wide below 0 as above, so
 // that a number up to these is in range.
-const MAPPED_PHASE: u32 = 2 * (PHASE_BELOW as u32 - 1);
+const MAPPED_PHASE: u32 = 2 * (PHASE_UPPER_END as u32 - 1);
 
 const MAPPED_OFFSET: u32 = 2 * (MAX_OFFSET as u32);
 
 const MAPPED_FREQUENCY: u32 = 2 * (MAX_FREQUENCY as u32);
 
-const MAPPED_ADJUSTMENT: u32 = 2 * (RECORDER.most.0 as u32);
+const MAPPED_ADJUSTMENT: u32 = 2 * (RECORDER_256.most.0 as u32);
 
 // The answer of a reading: refusal 0 and the clock that was saved, or refusal 10, 11, 12 or 13 and the fresh clock.
 pub struct Restored {
@@ -129,7 +129,7 @@ fn loop_fields(bytes: &[u8], at: usize, t: Time) -> Restored
 fn rate_fields(bytes: &[u8], at: usize, t: Time, l: Loop) -> Restored
     ensures { λ r. ⌜ r ≡ restored (readFrom (fromRate t l) (now (bytes .entry)) at) ⌝ }
 {
-    let d1 = signed(bytes, at, RECORDER.least.0, MAPPED_ADJUSTMENT);
+    let d1 = signed(bytes, at, RECORDER_256.least.0, MAPPED_ADJUSTMENT);
     let Field::Value(adjustment, n1) = d1 else {
         return refused(d1);
     };

@@ -2,8 +2,8 @@
 ghost use Rattle.record.specs.Saving.{Saves};
 use crate::layout::NUMBERS;
 use crate::layout::numbers;
-use clock::state::Clock;
-use clock::state::in_range;
+use clock::Clock;
+use clock::in_range;
 
 // No number has more than five bytes: there is room for every record.
 const ROOM: usize = 5 * NUMBERS;
