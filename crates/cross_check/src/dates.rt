@@ -1,10 +1,11 @@
 // Document 01's UTC label and its lines, a second time: days are counted off year by year and month by month, a date and time is one number
 // of fourteen digits, and a text is a pattern whose zeros are replaced by digits from the last to the first.
-use crate::first::wide;
+use crate::form::stands;
 use crate::rules::State;
 use crate::signed::minus;
 use crate::signed::pick;
 use crate::signed::plus;
+use crate::signed::wide;
 
 // A print: label, microseconds, status.
 pub(crate) const PRINT: [u8; 64] =
@@ -180,7 +181,7 @@ pub(crate) fn read(text: &[u8; 64], size: usize) -> Label {
     let mut written = (size == 20) & (second < 4294967296);
     written = written & (!sixty | (second % 86400 == 86399));
     let label = label_of(second, sixty);
-    written = written & crate::first::stands(text, 0, &label, 64);
+    written = written & stands(text, 0, &label, 64);
     Label {
         refusal: pick(written, 0, 15),
         second: pick(written, second, 0),

@@ -1,17 +1,16 @@
 // One case of reading, writing and mapping numbers, run by both implementations.
 use crate::calls::Verdict;
-use crate::first::same_byte;
-use crate::first::stands;
-use crate::first::to_i32;
-use crate::first::to_i64;
-use crate::first::word;
+use crate::first::Wrote;
+use crate::first::same_mapping;
+use crate::first::same_number;
+use crate::first::write_number;
+use crate::first::write_numbers;
 use crate::form::Draft;
 use crate::form::laid;
+use crate::form::stands;
 use crate::random::draw;
 use crate::signed::minus;
 use crate::signed::pick;
-use number::decode::Decoded;
-use number::encode::Written;
 
 // A power of 128 with 1 added or taken off, or any number of up to 32 bits.
 fn some_number(case: u64, what: u64) -> u64 {
@@ -42,26 +41,19 @@ pub(crate) fn read(case: u64) -> Verdict {
     let at = some_place(case);
     let end = (draw(case, 341) % 65) as usize;
     let mine = crate::form::read(&bytes, end, at);
-    let next = at % 4294967296 + mine.size % 8;
-    let same = match number::decode::read(&bytes[..end], at) {
-        Decoded::Value { value, next: place } => {
-            (mine.refusal == 0) & (mine.value == value) & (next == place)
-        }
-        Decoded::Refused(n) => same_byte(mine.refusal, n),
-    };
     Verdict {
         refusal: mine.refusal,
-        same: same,
+        same: same_number(bytes, end, at, mine),
     }
 }
 
 // What the first wrote and answered, beside the second's refusal and draft.
-pub(crate) fn agree(w: Written, buf: &[u8; 64], refusal: u64, fill: u8, d: Draft) -> Verdict {
+pub(crate) fn agree(w: Wrote, refusal: u64, fill: u8, d: Draft) -> Verdict {
+    let buf = w.text;
     let text = d.text;
     let accepted = refusal == 0;
-    let mut same = same_byte(refusal, w.refusal);
-    same = same & (w.next as u64 == pick(accepted, d.next as u64, 0));
-    same = same & stands(buf, fill, &text, pick(accepted, 64, 0) as usize);
+    let mut same = (refusal == w.refusal) & (w.next as u64 == pick(accepted, d.next as u64, 0));
+    same = same & stands(&buf, fill, &text, pick(accepted, 64, 0) as usize);
     Verdict {
         refusal: refusal,
         same: same,
@@ -93,9 +85,6 @@ fn mask_of(count: usize) -> u64 {
 pub(crate) fn write(case: u64) -> Verdict {
     let a = some_number(case, 350);
     let b = some_number(case, 351);
-    let x = word(a);
-    let y = word(b);
-    let words = [x, y, y, x, y, x, x, x, y, y, y, x, y];
     let v = draw(case, 343);
     let fill = (v % 256) as u8;
     let room = (v / 256 % 65) as usize;
@@ -103,14 +92,11 @@ pub(crate) fn write(case: u64) -> Verdict {
     let at = some_place(case);
     let row = [a, b, b, a, b, a, a, a, b, b, b, a, b];
     let d = laid(&row, mask_of(count), at, fill);
-    let mut buf = [fill; 64];
     let refusal = pick((at <= room) & (d.next <= room), 0, 14);
     if count == 1 {
-        let w = number::encode::write(&mut buf[..room], at, x);
-        return agree(w, &buf, refusal, fill, d);
+        return agree(write_number(fill, room, at, a), refusal, fill, d);
     }
-    let w = number::encode::write_all(&mut buf[..room], at, &words[..count]);
-    agree(w, &buf, refusal, fill, d)
+    agree(write_numbers(fill, room, at, a, b, count), refusal, fill, d)
 }
 
 // Mapping, and mapping back; the size of a written number.
@@ -122,11 +108,8 @@ pub(crate) fn map(case: u64) -> Verdict {
         minus(18446744073709551615, n / 8 % 3),
         draw(case, 362),
     );
-    let mut same = number::zigzag::map(to_i32(n)) == word(n);
-    same = same & (number::zigzag::unmap(m) == to_i64(m));
-    same = same & (number::encode::size(word(n)) == d.next);
     Verdict {
         refusal: 0,
-        same: same,
+        same: same_mapping(n, m, d.next),
     }
 }

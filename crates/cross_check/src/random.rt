@@ -101,27 +101,23 @@ fn argument(case: u64, what: u64, limit: u64) -> u64 {
     )
 }
 
-pub(crate) struct Asked {
-    pub(crate) mode: u64,
-    pub(crate) offset: u64,
-    pub(crate) frequency: u64,
-    pub(crate) maximum: u64,
-    pub(crate) estimated: u64,
-    pub(crate) status: u64,
-    pub(crate) constant: u64,
-}
-
-// A request, its offset and frequency mapped.
-pub(crate) fn some_request(case: u64) -> Asked {
-    Asked {
-        mode: argument(case, 41, 63),
-        offset: argument(case, 44, 255998),
-        frequency: argument(case, 47, 3355443198),
-        maximum: argument(case, 49, 16000000),
-        estimated: argument(case, 51, 16000000),
-        status: argument(case, 53, 4),
-        constant: argument(case, 55, 4),
-    }
+// A request: its mode, then the fields in order of mode bit, offset and frequency mapped.
+fn request_row(case: u64) -> [u64; 13] {
+    [
+        2,
+        argument(case, 41, 63),
+        argument(case, 44, 255998),
+        argument(case, 47, 3355443198),
+        argument(case, 49, 16000000),
+        argument(case, 51, 16000000),
+        argument(case, 53, 4),
+        argument(case, 55, 4),
+        0,
+        0,
+        0,
+        0,
+        0,
+    ]
 }
 
 // A setting: its seconds are once in 16 too large by 2^32.
@@ -151,27 +147,9 @@ fn setting_row(case: u64) -> [u64; 13] {
 pub(crate) fn row(case: u64, code: u64) -> [u64; 13] {
     match code {
         1 => setting_row(case),
-        2 => request_row(some_request(case)),
+        2 => request_row(case),
         _ => [code, 0, 0, 0, 0, 0, 0, 0, 0, 0, 0, 0, 0],
     }
-}
-
-fn request_row(a: Asked) -> [u64; 13] {
-    [
-        2,
-        a.mode,
-        a.offset,
-        a.frequency,
-        a.maximum,
-        a.estimated,
-        a.status,
-        a.constant,
-        0,
-        0,
-        0,
-        0,
-        0,
-    ]
 }
 
 // Bytes: any, or many of them 0, 127, 128 or 255, or many with the top bit.

@@ -9,10 +9,10 @@ use Rattle.cross_check.proofs.tell_answers.Reads as tell-answers-reads
 use Rattle.cross_check.proofs.tell_counts.Reads as tell-counts-reads
 
 abbrev Inv-loop : tie.InvT-loop
-Inv-loop group n met₀ differ₀ i₀ met differ i = i ≤ n
+Inv-loop group n met₀ t₀ i₀ met t i = i ≤ n
 
 abbrev μ-loop : tie.MeasureT-loop
-μ-loop group n met₀ differ₀ i₀ met differ i = n - i
+μ-loop group n met₀ t₀ i₀ met t i = n - i
 
 loop-holds : tie.Need-loop-holds Inv-loop μ-loop
 loop-holds c = search needs
