@@ -1,5 +1,6 @@
 // One case of each kind of event on the clock, run by both implementations.
 use crate::first::same_catch_up;
+use crate::first::same_constants;
 use crate::first::same_event;
 use crate::first::same_fresh;
 use crate::first::same_ticks;
@@ -31,14 +32,18 @@ pub(crate) fn event_on_any(case: u64, code: u64) -> Verdict {
 // About 1,000 of 1,024 are ticks, and half of the others requests.
 fn some_code(case: u64) -> u64 {
     let v = draw(case, 81);
-    let codes = [1, 2, 2, 3];
-    pick(v % 4096 < 96, codes[(v / 4096 % 4) as usize], 0)
+    let other = match v / 4096 % 4 {
+        0 => 1,
+        3 => 3,
+        _ => 2,
+    };
+    pick(v % 4096 < 96, other, 0)
 }
 
 // A list of 5,000 events from a fresh clock. Its refusal is the last one that an event gave.
 pub(crate) fn list(case: u64) -> Verdict {
     let mut s = fresh();
-    let mut same = same_fresh(s);
+    let mut same = same_fresh(s) & same_constants();
     let mut refusal: u64 = 0;
     let mut k: u64 = 0;
     while k < 5000 {

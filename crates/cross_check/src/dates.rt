@@ -132,29 +132,29 @@ fn digits_of(text: &[u8; 64]) -> u64 {
     n
 }
 
+// The days of a year before the first of a month, without a leap day.
+fn days_in_year(month: u64) -> u64 {
+    match month {
+        2 => 31,
+        3 => 59,
+        4 => 90,
+        5 => 120,
+        6 => 151,
+        7 => 181,
+        8 => 212,
+        9 => 243,
+        10 => 273,
+        11 => 304,
+        12 => 334,
+        _ => 0,
+    }
+}
+
 // The days before the first of a month, given as six digits of any value: 2100 is the one fourth year that is no leap year.
 fn days_before(month: u64) -> u64 {
-    let before = [
-        0u64,
-        0,
-        31,
-        59,
-        90,
-        120,
-        151,
-        181,
-        212,
-        243,
-        273,
-        304,
-        334,
-        0,
-        0,
-        0,
-    ];
     let years = minus(month / 100, 1970) % 1024;
     let leaps = (years + pick(month % 100 < 3, 1, 2) % 4) / 4;
-    let days = years * 365 + before[(month % 100 % 16) as usize] % 512 + leaps;
+    let days = years * 365 + days_in_year(month % 100) % 512 + leaps;
     minus(days, pick(210002 < month, 1, 0))
 }
 

@@ -167,9 +167,20 @@ pub(crate) fn same_event(s: State, row: &[u64; 13], a: Answer) -> bool {
     same & same_reading(shown(a, row[0]), e.reading)
 }
 
-// Whether the clock that every list begins with is the first's too.
+// The clock that every list begins with.
 pub(crate) fn same_fresh(s: State) -> bool {
     same_clock(s, clock::state::fresh())
+}
+
+// The bits of a mode, and the timer's rate with the constants that follow from it.
+pub(crate) fn same_constants() -> bool {
+    let m = request::request::mode_bits();
+    let d = clock::device::device_constants();
+    let mut same = (m.offset == 1) & (m.frequency == 2) & (m.maxerror == 4);
+    same = same & (m.esterror == 8) & (m.status == 16) & (m.constant == 32);
+    same = same & (d.rate == 256) & (d.tick.0 == 3906) & (d.scale == 64) & (d.divisor == 16);
+    same = same & (d.base.0 == 67108864);
+    same & (d.least.0 == -168819712) & (d.most.0 == 303037440)
 }
 
 // Up to n ticks in one call, where the second has answered `a`.
@@ -214,7 +225,7 @@ pub(crate) fn write_number(fill: u8, room: usize, at: usize, n: u64) -> Wrote {
     }
 }
 
-// The first `count` of thirteen numbers: x and y, repeated.
+// The first `count` of thirteen numbers: y at the places 1, 4, 5 and 12, else x.
 pub(crate) fn write_numbers(
     fill: u8,
     room: usize,
@@ -224,9 +235,12 @@ pub(crate) fn write_numbers(
     count: usize,
 ) -> Wrote {
     let mut buf = [fill; 64];
-    let a = word(x);
     let b = word(y);
-    let words = [a, b, b, a, b, a, a, a, b, b, b, a, b];
+    let mut words = [word(x); 13];
+    words[1] = b;
+    words[4] = b;
+    words[5] = b;
+    words[12] = b;
     let w = number::encode::write_all(&mut buf[..room % 65], at, &words[..count % 14]);
     Wrote {
         refusal: wide(w.refusal),

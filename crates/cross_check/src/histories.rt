@@ -5,6 +5,8 @@ use crate::first::same_start;
 use crate::form::put_all;
 use crate::random::Bytes;
 use crate::random::draw;
+use crate::random::row;
+use crate::random::short_row;
 use crate::replay::Replayed;
 use crate::replay::begun;
 use crate::replay::caught_up;
@@ -21,15 +23,18 @@ fn tick_count(case: u64) -> u64 {
 
 // An event of a history. Small offsets and statuses alone are frequent: they lead a clock to its leap seconds.
 fn some_event(case: u64) -> [u64; 13] {
+    let kind = draw(case, 601) % 8;
     let v = draw(case, 601) / 8;
-    match draw(case, 601) % 8 {
-        0 | 1 => [0, tick_count(case), 0, 0, 0, 0, 0, 0, 0, 0, 0, 0, 0],
-        2 | 3 => crate::random::row(case, 3),
-        4 => crate::random::row(case, 1),
-        5 => [2, 1, v % 4000, 0, 0, 0, 0, 0, 0, 0, 0, 0, 0],
-        6 => [2, 16, 0, 0, 0, 0, v % 4, 0, 0, 0, 0, 0, 0],
-        _ => crate::random::row(case, pick(v % 16 == 0, v / 16 % 256, 2)),
-    }
+    let mut row = match kind {
+        0 | 1 => short_row(0, tick_count(case), 0),
+        2 | 3 => row(case, 3),
+        4 => row(case, 1),
+        5 => short_row(2, 1, v % 4000),
+        6 => short_row(2, 16, 0),
+        _ => row(case, pick(v % 16 == 0, v / 16 % 256, 2)),
+    };
+    row[6] = pick(kind == 6, v % 4, row[6]);
+    row
 }
 
 // As many of sixteen events as 64 bytes hold, some with a code that is none; whole or damaged.

@@ -62,8 +62,16 @@ pub(crate) fn read(case: u64) -> Verdict {
     let k = (v / 16 % 20) as usize;
     let mut text = some_label(case);
     let b = wide(text[k]) % 256;
-    let bytes = [b, b + 1, b + 255, 48 + v / 1024 % 10, v / 1024, b, 48, 49];
-    text[k] = (bytes[(v % 8) as usize] % 256) as u8;
+    let changed = match v % 8 {
+        1 => b + 1,
+        2 => b + 255,
+        3 => 48 + v / 1024 % 10,
+        4 => v / 1024,
+        6 => 48,
+        7 => 49,
+        _ => b,
+    };
+    text[k] = (changed % 256) as u8;
     read_both(text, pick(v % 16 == 0, 18 + v / 16 % 4, 20) as usize)
 }
 

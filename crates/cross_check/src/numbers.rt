@@ -9,23 +9,24 @@ use crate::form::Draft;
 use crate::form::laid;
 use crate::form::stands;
 use crate::random::draw;
+use crate::random::short_row;
 use crate::signed::minus;
 use crate::signed::pick;
 
 // A power of 128 with 1 added or taken off, or any number of up to 32 bits.
 fn some_number(case: u64, what: u64) -> u64 {
     let v = draw(case, what);
-    let edges = [
-        129,
-        16385,
-        2097153,
-        268435457,
-        4294967295,
-        v % 128,
-        v % 65536,
-        v % 4294967296,
-    ];
-    minus(edges[(v / 4294967296 % 8) as usize], v / 34359738368 % 3)
+    let n = match v / 4294967296 % 8 {
+        0 => 129,
+        1 => 16385,
+        2 => 2097153,
+        3 => 268435457,
+        4 => 4294967295,
+        5 => v % 128,
+        6 => v % 65536,
+        _ => v % 4294967296,
+    };
+    minus(n, v / 34359738368 % 3)
 }
 
 // Half of them 0, else mostly up to 63, once in 64 far outside.
@@ -62,23 +63,22 @@ pub(crate) fn agree(w: Wrote, refusal: u64, fill: u8, d: Draft) -> Verdict {
 
 // The mask of the first `count` numbers.
 fn mask_of(count: usize) -> u64 {
-    let masks = [
-        0u64,
-        1,
-        3,
-        7,
-        15,
-        31,
-        63,
-        127,
-        255,
-        511,
-        1023,
-        2047,
-        4095,
-        8191,
-    ];
-    masks[count % 14]
+    match count {
+        0 => 0,
+        1 => 1,
+        2 => 3,
+        3 => 7,
+        4 => 15,
+        5 => 31,
+        6 => 63,
+        7 => 127,
+        8 => 255,
+        9 => 511,
+        10 => 1023,
+        11 => 2047,
+        12 => 4095,
+        _ => 8191,
+    }
 }
 
 // Up to thirteen numbers, one after the other: two, repeated. A list of one is written by the writer of a single number.
@@ -90,7 +90,11 @@ pub(crate) fn write(case: u64) -> Verdict {
     let room = (v / 256 % 65) as usize;
     let count = (v / 32768 % 14) as usize;
     let at = some_place(case);
-    let row = [a, b, b, a, b, a, a, a, b, b, b, a, b];
+    let mut row = [a; 13];
+    row[1] = b;
+    row[4] = b;
+    row[5] = b;
+    row[12] = b;
     let d = laid(&row, mask_of(count), at, fill);
     let refusal = pick((at <= room) & (d.next <= room), 0, 14);
     if count == 1 {
@@ -102,7 +106,8 @@ pub(crate) fn write(case: u64) -> Verdict {
 // Mapping, and mapping back; the size of a written number.
 pub(crate) fn map(case: u64) -> Verdict {
     let n = some_number(case, 350);
-    let d = laid(&[n, 0, 0, 0, 0, 0, 0, 0, 0, 0, 0, 0, 0], 1, 0, 0);
+    let row = short_row(n, 0, 0);
+    let d = laid(&row, 1, 0, 0);
     let m = pick(
         n % 8 == 0,
         minus(18446744073709551615, n / 8 % 3),

@@ -85,32 +85,28 @@ pub(crate) fn state_of(row: &[u64; 13]) -> State {
     }
 }
 
-// The largest number at each place of a record. A field from -m to m is mapped to 0 to 2m.
-fn most_of(row: &[u64; 13]) -> [u64; 13] {
-    [
-        1,
-        4294967295,
-        999999,
-        536870910,
-        4194271232,
-        3355443200,
-        pick(row[6] % 2 == 1, 337639423, 606074880),
-        4,
-        1,
-        row[8] % 2 * 4294967295,
-        16000000,
-        16000000,
-        4,
-    ]
+// The largest number at place k of a record. A field from -m to m is mapped to 0 to 2m.
+fn most_at(row: &[u64; 13], k: usize) -> u64 {
+    match k {
+        1 => 4294967295,
+        2 => 999999,
+        3 => 536870910,
+        4 => 4194271232,
+        5 => 3355443200,
+        6 => pick(row[6] % 2 == 1, 337639423, 606074880),
+        9 => row[8] % 2 * 4294967295,
+        10 | 11 => 16000000,
+        7 | 12 => 4,
+        _ => 1,
+    }
 }
 
 // Whether the first `count` numbers of a record are in range, the version known.
 pub(crate) fn fits(row: &[u64; 13], count: u64) -> bool {
-    let most = most_of(row);
     let mut ok = (count == 0) | (row[0] == 1);
     let mut k: usize = 0;
     while k < 13 {
-        ok = ok & ((count <= k as u64) | (row[k] <= most[k]));
+        ok = ok & ((count <= k as u64) | (row[k] <= most_at(row, k)));
         k += 1;
     }
     ok

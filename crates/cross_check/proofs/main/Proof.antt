@@ -8,22 +8,16 @@ use Rattle.cross_check.proofs.tell_head.Reads as tell-head-reads
 use Rattle.cross_check.proofs.tell_verdict.Reads as tell-verdict-reads
 
 abbrev Inv-loop : tie.InvT-loop
-Inv-loop cases compared₀ differ₀ k₀ compared differ k = k ≤ 16
+Inv-loop compared₀ differ₀ k₀ compared differ k = k ≤ 16
 
 abbrev μ-loop : tie.MeasureT-loop
-μ-loop cases compared₀ differ₀ k₀ compared differ k = 16 - k
+μ-loop compared₀ differ₀ k₀ compared differ k = 16 - k
 
 tell-head-requires : tie.Need-tell-head-requires Inv-loop μ-loop
 tell-head-requires c κs = search needs
 
 loop-holds : tie.Need-loop-holds Inv-loop μ-loop
 loop-holds c = search needs
-
-mul-run : tie.Need-mul-run Inv-loop μ-loop
-mul-run c = search needs
-
-array-read-run : tie.Need-array-read-run Inv-loop μ-loop
-array-read-run c = search needs
 
 run-requires : tie.Need-run-requires Inv-loop μ-loop
 run-requires c κs = search needs
@@ -63,8 +57,6 @@ main-spec =
     μ-loop
     tell-head-requires
     loop-holds
-    mul-run
-    array-read-run
     run-requires
     mul-compared
     array-write-compared

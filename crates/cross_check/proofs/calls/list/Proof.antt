@@ -4,6 +4,7 @@ use borrow.Author.Needs.{needs}
 use Rattle.cross_check.proofs.calls.list.Statement.{statement}
 use Rattle.cross_check.proofs.calls.list.Tie as tie
 use Rattle.cross_check.proofs.calls.some_code.Reads as some-code-reads
+use Rattle.cross_check.proofs.first.same_constants.Reads as same-constants-reads
 use Rattle.cross_check.proofs.first.same_event.Reads as same-event-reads
 use Rattle.cross_check.proofs.first.same_fresh.Reads as same-fresh-reads
 use Rattle.cross_check.proofs.random.row.Reads as row-reads
@@ -22,6 +23,9 @@ fresh-requires c κs = search needs
 
 same-fresh-requires : tie.Need-same-fresh-requires Inv-loop μ-loop
 same-fresh-requires c κs = search needs
+
+same-constants-requires : tie.Need-same-constants-requires Inv-loop μ-loop
+same-constants-requires c κs = search needs
 
 loop-holds : tie.Need-loop-holds Inv-loop μ-loop
 loop-holds c = search needs
@@ -67,6 +71,7 @@ list-spec =
     μ-loop
     fresh-requires
     same-fresh-requires
+    same-constants-requires
     loop-holds
     mul-c
     add-c

@@ -1,4 +1,4 @@
--- `cross_check::first::write_numbers` is safe: the part that is lent is as long as it says.
+-- `cross_check::first::write_numbers` is safe: the parts that are lent are as long as they say.
 use native.Mathlib.Omega.{arith}
 use lib.ListN.{length-take}
 use borrow.Author.Needs.{needs}
@@ -13,6 +13,18 @@ word-requires c κs = search needs
 
 word-requires-2 : tie.Need-word-requires-2
 word-requires-2 c κs = search needs
+
+array-write-words : tie.Need-array-write-words
+array-write-words c = search needs
+
+array-write-words-2 : tie.Need-array-write-words-2
+array-write-words-2 c = search needs
+
+array-write-words-3 : tie.Need-array-write-words-3
+array-write-words-3 c = search needs
+
+array-write-words-4 : tie.Need-array-write-words-4
+array-write-words-4 c = search needs
 
 array-borrow-prefix-buf : tie.Need-array-borrow-prefix-buf
 array-borrow-prefix-buf c = search needs
@@ -41,6 +53,10 @@ write-numbers-spec =
     (tie.spec
     word-requires
     word-requires-2
+    array-write-words
+    array-write-words-2
+    array-write-words-3
+    array-write-words-4
     array-borrow-prefix-buf
     slice-aggregate-write-all
     array-share-prefix-words
