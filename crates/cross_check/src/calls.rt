@@ -1,18 +1,16 @@
 // One case of each kind of event on the clock, run by both implementations.
-use crate::first::clock_of;
-use crate::first::request_of;
-use crate::first::same_byte;
-use crate::first::same_clock;
-use crate::first::same_reading;
+use crate::first::same_catch_up;
+use crate::first::same_constants;
+use crate::first::same_event;
+use crate::first::same_fresh;
+use crate::first::same_ticks;
 use crate::random::draw;
-use crate::random::some_request;
-use crate::rules::Answer;
-use crate::rules::State;
+use crate::random::row;
+use crate::random::state;
 use crate::rules::fresh;
-use crate::rules::shown;
+use crate::rules::step;
+use crate::rules::ticks;
 use crate::signed::pick;
-use clock::AskedMicros;
-use event::Event;
 
 // The refusal that the second implementation gave, and whether the first gave the same answer.
 pub(crate) struct Verdict {
@@ -20,54 +18,39 @@ pub(crate) struct Verdict {
     pub(crate) same: bool,
 }
 
-// The event of a row: code 0 a tick, 1 a setting, 2 a request, 3 a reading.
-fn event_of(row: &[u64; 13], case: u64) -> Event {
-    let code = row[0];
-    match code {
-        0 => Event::Tick,
-        1 => Event::Setting(row[1], AskedMicros(row[2])),
-        2 => Event::Request(request_of(some_request(case))),
-        _ => Event::Reading,
-    }
-}
-
-// An event, where the second has answered `a`.
-fn stepped(s: State, row: &[u64; 13], case: u64, a: Answer) -> bool {
-    let e = event::step(clock_of(s), event_of(row, case));
-    let mut same = same_byte(a.refusal, e.refusal);
-    same = same & same_clock(a.state, e.clock);
-    same & same_reading(shown(a, row[0]), e.reading)
-}
-
 // An event of a code, on a clock that need not be sound.
 pub(crate) fn event_on_any(case: u64, code: u64) -> Verdict {
-    let s = crate::random::state(case);
-    let row = crate::random::row(case, code);
-    let a = crate::rules::step(s, &row);
+    let s = state(case);
+    let row = row(case, code);
+    let a = step(s, &row);
     Verdict {
         refusal: a.refusal,
-        same: stepped(s, &row, case, a),
+        same: same_event(s, &row, a),
     }
 }
 
 // About 1,000 of 1,024 are ticks, and half of the others requests.
 fn some_code(case: u64) -> u64 {
     let v = draw(case, 81);
-    let codes = [1, 2, 2, 3];
-    pick(v % 4096 < 96, codes[(v / 4096 % 4) as usize], 0)
+    let other = match v / 4096 % 4 {
+        0 => 1,
+        3 => 3,
+        _ => 2,
+    };
+    pick(v % 4096 < 96, other, 0)
 }
 
 // A list of 5,000 events from a fresh clock. Its refusal is the last one that an event gave.
 pub(crate) fn list(case: u64) -> Verdict {
     let mut s = fresh();
-    let mut same = true;
+    let mut same = same_fresh(s) & same_constants();
     let mut refusal: u64 = 0;
     let mut k: u64 = 0;
     while k < 5000 {
         let c = case % 65536 * 5000 + k;
-        let row = crate::random::row(c, some_code(c));
-        let a = crate::rules::step(s, &row);
-        same = same & stepped(s, &row, c, a);
+        let row = row(c, some_code(c));
+        let a = step(s, &row);
+        same = same & same_event(s, &row, a);
         refusal = pick(a.refusal == 0, refusal, a.refusal);
         s = a.state;
         k += 1;
@@ -75,5 +58,17 @@ pub(crate) fn list(case: u64) -> Verdict {
     Verdict {
         refusal: refusal,
         same: same,
+    }
+}
+
+// Up to 700 ticks in one call, and as many in one that stops at a rollover, of a clock that need not be sound.
+pub(crate) fn many_ticks(case: u64) -> Verdict {
+    let s = state(case);
+    let n = draw(case, 83) % 701;
+    let all = ticks(s, n, false);
+    let same = same_ticks(s, n, all);
+    Verdict {
+        refusal: all.refusal,
+        same: same & same_catch_up(s, n, ticks(s, n, true)),
     }
 }

@@ -1,10 +1,11 @@
 // Document 01's UTC label and its lines, a second time: days are counted off year by year and month by month, a date and time is one number
 // of fourteen digits, and a text is a pattern whose zeros are replaced by digits from the last to the first.
-use crate::first::wide;
+use crate::form::stands;
 use crate::rules::State;
 use crate::signed::minus;
 use crate::signed::pick;
 use crate::signed::plus;
+use crate::signed::wide;
 
 // A print: label, microseconds, status.
 pub(crate) const PRINT: [u8; 64] =
@@ -131,29 +132,29 @@ fn digits_of(text: &[u8; 64]) -> u64 {
     n
 }
 
+// The days of a year before the first of a month, without a leap day.
+fn days_in_year(month: u64) -> u64 {
+    match month {
+        2 => 31,
+        3 => 59,
+        4 => 90,
+        5 => 120,
+        6 => 151,
+        7 => 181,
+        8 => 212,
+        9 => 243,
+        10 => 273,
+        11 => 304,
+        12 => 334,
+        _ => 0,
+    }
+}
+
 // The days before the first of a month, given as six digits of any value: 2100 is the one fourth year that is no leap year.
 fn days_before(month: u64) -> u64 {
-    let before = [
-        0u64,
-        0,
-        31,
-        59,
-        90,
-        120,
-        151,
-        181,
-        212,
-        243,
-        273,
-        304,
-        334,
-        0,
-        0,
-        0,
-    ];
     let years = minus(month / 100, 1970) % 1024;
     let leaps = (years + pick(month % 100 < 3, 1, 2) % 4) / 4;
-    let days = years * 365 + before[(month % 100 % 16) as usize] % 512 + leaps;
+    let days = years * 365 + days_in_year(month % 100) % 512 + leaps;
     minus(days, pick(210002 < month, 1, 0))
 }
 
@@ -180,7 +181,7 @@ pub(crate) fn read(text: &[u8; 64], size: usize) -> Label {
     let mut written = (size == 20) & (second < 4294967296);
     written = written & (!sixty | (second % 86400 == 86399));
     let label = label_of(second, sixty);
-    written = written & crate::first::stands(text, 0, &label, 64);
+    written = written & stands(text, 0, &label, 64);
     Label {
         refusal: pick(written, 0, 15),
         second: pick(written, second, 0),

@@ -1,33 +1,44 @@
-// The first implementation's values beside the second's: made of them, and compared with them.
-use crate::random::Asked;
+// The first implementation's calls, each beside what the second answers. No other file names the first's crates.
+use crate::dates::Label;
+use crate::form::Number;
+use crate::replay::Replayed;
+use crate::replay::caught_up;
+use crate::rules::Answer;
+use crate::rules::Ran;
 use crate::rules::State;
+use crate::rules::reading;
+use crate::rules::shown;
 use crate::signed::minus;
+use crate::signed::pick;
 use crate::signed::unmapped;
-use clock::AskedMicros;
+use crate::signed::wide;
+use calendar::Found;
+use clock::Outcome;
+use clock::Reading;
 use clock::Clock;
+use clock::AskedMicros;
 use clock::Frequency;
 use clock::Micros;
 use clock::OffsetUnits;
 use clock::PhaseUnits;
-use clock::Reading;
+use event::Event;
+use number::Decoded;
+use playback::run::Filling;
+use playback::run::Run;
+use request::Request;
 use request::AskedFrequency;
 use request::AskedOffset;
-use request::Request;
 
 fn byte(n: u64) -> u8 {
     (n % 256) as u8
 }
 
-pub(crate) fn wide(b: u8) -> u64 {
-    b as u64
-}
-
-pub(crate) fn word(n: u64) -> u32 {
+fn word(n: u64) -> u32 {
     (n % 4294967296) as u32
 }
 
 // The value that n, below 2^32, stands for.
-pub(crate) fn to_i32(n: u64) -> i32 {
+fn to_i32(n: u64) -> i32 {
     let v = unmapped(n);
     if v.negative {
         let below = minus(v.size, 1);
@@ -38,7 +49,7 @@ pub(crate) fn to_i32(n: u64) -> i32 {
 }
 
 // The value that n stands for.
-pub(crate) fn to_i64(n: u64) -> i64 {
+fn to_i64(n: u64) -> i64 {
     let v = unmapped(n);
     if v.negative {
         let below = minus(v.size, 1);
@@ -49,7 +60,7 @@ pub(crate) fn to_i64(n: u64) -> i64 {
 }
 
 // The clock of a state; every field that is drawn or worked out fits.
-pub(crate) fn clock_of(s: State) -> Clock {
+fn clock_of(s: State) -> Clock {
     Clock {
         seconds: word(s.seconds),
         micros: Micros(word(s.micros)),
@@ -66,52 +77,286 @@ pub(crate) fn clock_of(s: State) -> Clock {
     }
 }
 
-pub(crate) fn request_of(r: Asked) -> Request {
-    Request {
-        mode: r.mode,
-        offset: AskedOffset(to_i64(r.offset)),
-        frequency: AskedFrequency(to_i64(r.frequency)),
-        maxerror: AskedMicros(r.maximum),
-        esterror: AskedMicros(r.estimated),
-        status: r.status,
-        constant: r.constant,
-    }
-}
-
-pub(crate) fn same_byte(a: u64, b: u8) -> bool {
+fn same_byte(a: u64, b: u8) -> bool {
     a == b as u64
 }
 
-pub(crate) fn same_clock(s: State, c: Clock) -> bool {
-    let d = clock_of(s);
-    let mut same = (d.seconds == c.seconds) & (d.micros.0 == c.micros.0);
-    same = same & (d.phase.0 == c.phase.0) & (d.offset.0 == c.offset.0);
-    same = same & (d.frequency.0 == c.frequency.0) & (d.adjustment.0 == c.adjustment.0);
-    same = same & (d.constant == c.constant) & (d.updated == c.updated);
-    same = same & (d.reftime == c.reftime) & (d.maxerror.0 == c.maxerror.0);
-    same & (d.esterror.0 == c.esterror.0) & (d.status == c.status)
+fn same_word(a: u64, b: u32) -> bool {
+    a == b as u64
+}
+
+// Whether n stands for v.
+fn same_signed(n: u64, v: i32) -> bool {
+    to_i64(n) == v as i64
+}
+
+// Field by field, each to its last bit.
+fn same_clock(s: State, c: Clock) -> bool {
+    let mut same = same_word(s.seconds, c.seconds) & same_word(s.micros, c.micros.0);
+    same = same & same_signed(s.phase, c.phase.0) & same_signed(s.left, c.offset.0);
+    same = same & same_signed(s.frequency, c.frequency.0);
+    same = same & same_signed(s.adjustment, c.adjustment.0);
+    same = same & same_byte(s.constant, c.constant) & same_byte(s.flag, c.updated);
+    same = same & same_word(s.earlier, c.reftime) & same_word(s.maximum, c.maxerror.0);
+    same & same_word(s.estimated, c.esterror.0) & same_byte(s.status, c.status)
 }
 
 // A reading shows seconds, microseconds, status and both errors.
-pub(crate) fn same_reading(s: State, r: Reading) -> bool {
-    (s.seconds == r.seconds as u64)
-        & (s.micros == r.micros.0 as u64)
-        & (s.status == r.status as u64)
-        & (s.maximum == r.maxerror.0 as u64)
-        & (s.estimated == r.esterror.0 as u64)
+fn same_reading(s: State, r: Reading) -> bool {
+    let mut same = same_word(s.seconds, r.seconds) & same_word(s.micros, r.micros.0);
+    same = same & same_byte(s.status, r.status) & same_word(s.maximum, r.maxerror.0);
+    same & same_word(s.estimated, r.esterror.0)
 }
 
-// Whether a lent buffer that held `fill` now begins with the first `size` bytes of the text, and holds `fill` after them.
-pub(crate) fn stands(buf: &[u8; 64], fill: u8, text: &[u8; 64], size: usize) -> bool {
+fn same_outcome(a: Answer, o: Outcome) -> bool {
+    same_byte(a.refusal, o.refusal) & same_clock(a.state, o.clock)
+}
+
+// A request is a row: code, mode, then the fields in order of mode bit, offset and frequency mapped.
+fn request_of(row: &[u64; 13]) -> Request {
+    Request {
+        mode: row[1],
+        offset: AskedOffset(to_i64(row[2])),
+        frequency: AskedFrequency(to_i64(row[3])),
+        maxerror: AskedMicros(row[4]),
+        esterror: AskedMicros(row[5]),
+        status: row[6],
+        constant: row[7],
+    }
+}
+
+// The event of a row: code 0 a tick, 1 a setting, 2 a request, 3 a reading.
+fn event_of(row: &[u64; 13]) -> Event {
+    let code = row[0];
+    match code {
+        0 => Event::Tick,
+        1 => Event::Setting(row[1], AskedMicros(row[2])),
+        2 => Event::Request(request_of(row)),
+        _ => Event::Reading,
+    }
+}
+
+// The event of a row by its own call.
+fn called(c: Clock, row: &[u64; 13]) -> Outcome {
+    let code = row[0];
+    match code {
+        0 => clock::tick(c),
+        1 => clock::set(c, row[1], AskedMicros(row[2])),
+        2 => request::adjust(c, request_of(row)),
+        _ => Outcome {
+            refusal: clock::read(c).refusal,
+            clock: c,
+        },
+    }
+}
+
+// The clock's own judgement and reading, where the second has answered `a` to a reading.
+fn same_told(a: Answer, c: Clock) -> bool {
+    let t = clock::read(c);
+    let mut same = clock::in_range(c) == (a.refusal == 0);
+    same = same & same_byte(a.refusal, t.refusal);
+    same & same_reading(shown(a, 3), t.reading)
+}
+
+// An event by its own call and as a step of a list, where the second has answered `a`; and the clock that it meets.
+pub(crate) fn same_event(s: State, row: &[u64; 13], a: Answer) -> bool {
+    let c = clock_of(s);
+    let e = event::step(c, event_of(row));
+    let mut same = same_told(reading(s), c) & same_outcome(a, called(c, row));
+    same = same & same_byte(a.refusal, e.refusal) & same_clock(a.state, e.clock);
+    same & same_reading(shown(a, row[0]), e.reading)
+}
+
+// The clock that every list begins with.
+pub(crate) fn same_fresh(s: State) -> bool {
+    same_clock(s, clock::fresh())
+}
+
+// The bits of a mode, and the timer's rate with the constants that follow from it.
+pub(crate) fn same_constants() -> bool {
+    let m = request::mode_bits();
+    let d = clock::device_constants();
+    let mut same = (m.offset == 1) & (m.frequency == 2) & (m.maxerror == 4);
+    same = same & (m.esterror == 8) & (m.status == 16) & (m.constant == 32);
+    same = same & (d.rate == 256) & (d.tick.0 == 3906) & (d.scale == 64) & (d.divisor == 16);
+    same = same & (d.base.0 == 67108864);
+    same & (d.least.0 == -168819712) & (d.most.0 == 303037440)
+}
+
+// Up to n ticks in one call, where the second has answered `a`.
+pub(crate) fn same_ticks(s: State, n: u64, a: Ran) -> bool {
+    let o = clock::run_ticks(clock_of(s), n);
+    same_byte(a.refusal, o.refusal) & same_clock(a.state, o.clock)
+}
+
+// The same, none after a rollover, and how many ticks were not accepted.
+pub(crate) fn same_catch_up(s: State, n: u64, a: Ran) -> bool {
+    let o = clock::ticks_to_rollover(clock_of(s), n);
+    let same = same_byte(a.refusal, o.refusal) & same_clock(a.state, o.clock);
+    same & (a.left == o.left)
+}
+
+// The number at `at` of the first `end` bytes.
+pub(crate) fn same_number(bytes: [u8; 64], end: usize, at: usize, mine: Number) -> bool {
+    let after = at % 4294967296 + mine.size % 8;
+    match number::read(&bytes[..end % 65], at) {
+        Decoded::Value { value, next } => {
+            (mine.refusal == 0) & (mine.value == value) & (after == next)
+        }
+        Decoded::Refused(n) => (mine.refusal != 0) & same_byte(mine.refusal, n),
+    }
+}
+
+// What a writer answered: its refusal and, but for a label, the place after what it wrote; and the buffer, of which it was lent a part.
+pub(crate) struct Wrote {
+    pub(crate) refusal: u64,
+    pub(crate) next: usize,
+    pub(crate) text: [u8; 64],
+}
+
+// One number, by the writer of a single one.
+pub(crate) fn write_number(fill: u8, room: usize, at: usize, n: u64) -> Wrote {
+    let mut buf = [fill; 64];
+    let w = number::write(&mut buf[..room % 65], at, word(n));
+    Wrote {
+        refusal: wide(w.refusal),
+        next: w.next,
+        text: buf,
+    }
+}
+
+// The first `count` of thirteen numbers: y at the places 1, 4, 5 and 12, else x.
+pub(crate) fn write_numbers(
+    fill: u8,
+    room: usize,
+    at: usize,
+    x: u64,
+    y: u64,
+    count: usize,
+) -> Wrote {
+    let mut buf = [fill; 64];
+    let b = word(y);
+    let mut words = [word(x); 13];
+    words[1] = b;
+    words[4] = b;
+    words[5] = b;
+    words[12] = b;
+    let w = number::write_all(&mut buf[..room % 65], at, &words[..count % 14]);
+    Wrote {
+        refusal: wide(w.refusal),
+        next: w.next,
+        text: buf,
+    }
+}
+
+// The number that n's value is mapped to, the value that m stands for, and the size of n as it is written.
+pub(crate) fn same_mapping(n: u64, m: u64, size: usize) -> bool {
+    let mut same = number::map(to_i32(n)) == word(n);
+    same = same & (number::unmap(m) == to_i64(m));
+    same & (number::size(word(n)) == size)
+}
+
+pub(crate) fn write_label(s: State, fill: u8, room: usize) -> Wrote {
+    let mut buf = [fill; 64];
+    let refusal = label::write(clock_of(s), &mut buf[..room % 65]);
+    Wrote {
+        refusal: wide(refusal),
+        next: 0,
+        text: buf,
+    }
+}
+
+pub(crate) fn same_label(text: [u8; 64], size: usize, mine: Label) -> bool {
+    let a = label::read(&text[..size % 65]);
+    let same = same_byte(mine.refusal, a.refusal) & same_word(mine.second, a.seconds);
+    same & (mine.sixty == a.sixty)
+}
+
+// The date of a second, eight digits, and the day that has this date.
+pub(crate) fn same_date(second: u64, date: u64) -> bool {
+    let d = calendar::date_of_second(word(second));
+    let year = same_word(date / 10000, d.year);
+    let same = year & same_word(date / 100 % 100, d.month) & same_word(date % 100, d.day);
+    match calendar::day_of(d) {
+        Found::Day(day) => same & same_word(second / 86400, day),
+        Found::NoDay => false,
+    }
+}
+
+pub(crate) fn write_record(s: State, fill: u8, room: usize) -> Wrote {
+    let mut buf = [fill; 64];
+    let w = record::write(clock_of(s), &mut buf[..room % 65]);
+    Wrote {
+        refusal: wide(w.refusal),
+        next: w.length,
+        text: buf,
+    }
+}
+
+// The clock that the first `end` bytes are a record of.
+pub(crate) fn same_record(bytes: [u8; 64], end: usize, a: Answer) -> bool {
+    let r = record::read(&bytes[..end % 65]);
+    same_byte(a.refusal, r.refusal) & same_clock(a.state, r.clock)
+}
+
+// Where a run stands.
+fn same_run(mine: Replayed, run: Run) -> bool {
+    let same = (run.ended == mine.over) & (run.place == mine.place);
+    same & same_clock(mine.state, run.clock)
+}
+
+pub(crate) fn same_start(mine: Replayed) -> bool {
+    same_run(mine, playback::run::start())
+}
+
+// One call on a run, which took the second from `before` to where `mine` stands: refused with room for no line, unless nothing is left to
+// write; else it comes past an event or to the end.
+fn same_call(before: Replayed, mine: Replayed, room: usize, f: Filling) -> bool {
+    let refusal = pick((room < 30) & !before.over, 14, 0);
+    let moved = (before.place < mine.place) | mine.over;
+    let mut same = same_byte(refusal, f.refusal) & (moved == (refusal == 0));
+    same = same & (f.length as u64 == minus(mine.size as u64, before.size as u64));
+    same & same_run(mine, f.run)
+}
+
+// Whether a lent buffer that held 9 begins with the `size` bytes of the output from `at` on, and holds 9 after them.
+fn same_part(part: &[u8; 64], out: &[u8; 2048], at: usize, size: usize) -> bool {
     let mut same = true;
     let mut k: usize = 0;
     while k < 64 {
-        let mut expected = fill;
+        let mut expected = 9;
         if k < size {
-            expected = text[k];
+            expected = out[(at % 2048 + k) % 2048];
         }
-        same = same & (buf[k] == expected);
+        same = same & (part[k] == expected);
         k += 1;
     }
     same
+}
+
+// A run over a history from where `from` stands, in calls that lend `room` bytes. After each call the second goes on to the same place.
+// Its history begins with `head`.
+pub(crate) fn same_replay(bytes: &[u8], head: [u8; 64], from: Replayed, room: usize) -> bool {
+    let mut out = [0u8; 2048];
+    let mut mine = from;
+    let mut same = true;
+    let mut left: u64 = 66;
+    while 0 < left {
+        let mut part = [9u8; 64];
+        let run = Run {
+            clock: clock_of(mine.state),
+            place: mine.place,
+            ended: mine.over,
+        };
+        let f = playback::run::fill(bytes, run, &mut part[..room % 65]);
+        let before = mine;
+        mine = caught_up(before, f.run.place, f.run.ended, &head, &mut out);
+        same = same & same_call(before, mine, room, f);
+        same = same & same_part(&part, &out, before.size, f.length);
+        if mine.over {
+            break;
+        }
+        left -= 1;
+    }
+    same & (mine.over == ((29 < room) | from.over))
 }

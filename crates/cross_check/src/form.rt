@@ -1,9 +1,9 @@
 // Document 01's number form, a second time: a number's end is found first, then its value is worked out from the last group to the first.
 // Rows of up to thirteen numbers, as records and events have them, are written and read by a mask: bit k says that number k is there.
-use crate::first::wide;
 use crate::signed::minus;
 use crate::signed::pick;
 use crate::signed::plus;
+use crate::signed::wide;
 
 pub(crate) struct Number {
     pub(crate) refusal: u64,
@@ -159,4 +159,19 @@ pub(crate) fn laid(row: &[u64; 13], mask: u64, at: usize, fill: u8) -> Draft {
         text: text,
         next: next,
     }
+}
+
+// Whether a lent buffer that held `fill` now begins with the first `size` bytes of the text, and holds `fill` after them.
+pub(crate) fn stands(buf: &[u8; 64], fill: u8, text: &[u8; 64], size: usize) -> bool {
+    let mut same = true;
+    let mut k: usize = 0;
+    while k < 64 {
+        let mut expected = fill;
+        if k < size {
+            expected = text[k];
+        }
+        same = same & (buf[k] == expected);
+        k += 1;
+    }
+    same
 }

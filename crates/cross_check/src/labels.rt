@@ -2,27 +2,30 @@
 use crate::calls::Verdict;
 use crate::dates::PRINT;
 use crate::dates::clock_stamp;
+use crate::dates::date_of;
 use crate::dates::filled;
 use crate::dates::label_of;
-use crate::first::clock_of;
-use crate::first::same_byte;
-use crate::first::stands;
+use crate::first::same_date;
+use crate::first::same_label;
+use crate::first::write_label;
+use crate::form::stands;
 use crate::random::draw;
 use crate::rules::State;
 use crate::signed::least;
 use crate::signed::pick;
+use crate::signed::wide;
 
 // A writer checks 1, then 14.
 fn written(s: State, room: usize, fill: u8) -> Verdict {
-    let mut buf = [fill; 64];
     let fit = pick(room < 20, 14, 0);
     let refusal = pick(crate::rules::sound(s), fit, 1);
     let text = filled(PRINT, 20, clock_stamp(s));
-    let r = label::write(clock_of(s), &mut buf[..room % 65]);
+    let w = write_label(s, fill, room);
+    let buf = w.text;
     let size = pick(refusal == 0, 20, 0) as usize;
     Verdict {
         refusal: refusal,
-        same: same_byte(refusal, r) & stands(&buf, fill, &text, size),
+        same: (refusal == w.refusal) & stands(&buf, fill, &text, size),
     }
 }
 
@@ -35,12 +38,9 @@ pub(crate) fn write(case: u64) -> Verdict {
 
 fn read_both(text: [u8; 64], size: usize) -> Verdict {
     let mine = crate::dates::read(&text, size);
-    let a = label::read(&text[..size % 65]);
-    let mut same = same_byte(mine.refusal, a.refusal);
-    same = same & (mine.second == a.seconds as u64);
     Verdict {
         refusal: mine.refusal,
-        same: same & (mine.sixty == a.sixty),
+        same: same_label(text, size, mine),
     }
 }
 
@@ -61,13 +61,21 @@ pub(crate) fn read(case: u64) -> Verdict {
     let v = draw(case, 416);
     let k = (v / 16 % 20) as usize;
     let mut text = some_label(case);
-    let b = crate::first::wide(text[k]) % 256;
-    let bytes = [b, b + 1, b + 255, 48 + v / 1024 % 10, v / 1024, b, 48, 49];
-    text[k] = (bytes[(v % 8) as usize] % 256) as u8;
+    let b = wide(text[k]) % 256;
+    let changed = match v % 8 {
+        1 => b + 1,
+        2 => b + 255,
+        3 => 48 + v / 1024 % 10,
+        4 => v / 1024,
+        6 => 48,
+        7 => 49,
+        _ => b,
+    };
+    text[k] = (changed % 256) as u8;
     read_both(text, pick(v % 16 == 0, 18 + v / 16 % 4, 20) as usize)
 }
 
-// A second of a day, its label written and read back.
+// A second of a day: its date, and its label written and read back.
 pub(crate) fn day(case: u64) -> Verdict {
     let mut s = crate::rules::fresh();
     s.seconds = least(case % 49711 * 86400 + draw(case, 420) % 86400, 4294967295);
@@ -76,6 +84,6 @@ pub(crate) fn day(case: u64) -> Verdict {
     let r = read_both(label_of(s.seconds, false), 20);
     Verdict {
         refusal: r.refusal,
-        same: w.same & r.same,
+        same: w.same & r.same & same_date(s.seconds, date_of(s.seconds)),
     }
 }

@@ -22,12 +22,16 @@ use libc::STDOUT_FILENO;
 // Differences told one by one in each group; the others are only counted.
 const TOLD: u64 = 5;
 
-// The groups, in the order of the lines, by names of sixteen bytes.
+// How many groups there are.
+const GROUPS: usize = 16;
+
+// Their names, of sixteen bytes each, in the order of the lines.
 const NAMES: [u8; 256] = *b"ticks           \
 settings        \
 requests        \
 readings        \
 lists of events \
+many ticks      \
 numbers read    \
 numbers written \
 numbers mapped  \
@@ -37,42 +41,45 @@ days            \
 records written \
 records read    \
 histories       \
-long histories  \
-in all          ";
+long histories  ";
 
 // How many cases each has.
-const CASES: [u64; 15] = [
-    100000,
-    20000,
-    100000,
-    10000,
-    100,
-    100000,
-    50000,
-    10000,
-    30000,
-    120000,
-    49711,
-    50000,
-    100000,
-    20000,
-    8,
-];
+fn cases_of(group: u64) -> u64 {
+    match group {
+        0 => 100000,
+        1 => 20000,
+        2 => 100000,
+        3 => 10000,
+        4 => 100,
+        5 => 10000,
+        6 => 100000,
+        7 => 50000,
+        8 => 10000,
+        9 => 30000,
+        10 => 120000,
+        11 => 49711,
+        12 => 50000,
+        13 => 100000,
+        14 => 20000,
+        _ => 8,
+    }
+}
 
 // One case of a group.
 fn run_case(group: u64, case: u64) -> Verdict {
     match group {
         4 => calls::list(case),
-        5 => numbers::read(case),
-        6 => numbers::write(case),
-        7 => numbers::map(case),
-        8 => labels::write(case),
-        9 => labels::read(case),
-        10 => labels::day(case),
-        11 => records::write(case),
-        12 => records::read(case),
-        13 => histories::replay(case),
-        14 => histories::long(case),
+        5 => calls::many_ticks(case),
+        6 => numbers::read(case),
+        7 => numbers::write(case),
+        8 => numbers::map(case),
+        9 => labels::write(case),
+        10 => labels::read(case),
+        11 => labels::day(case),
+        12 => records::write(case),
+        13 => records::read(case),
+        14 => histories::replay(case),
+        15 => histories::long(case),
         _ => calls::event_on_any(case, group),
     }
 }
@@ -93,10 +100,10 @@ fn end_line() {
     io::write_all(STDOUT_FILENO, b"\n");
 }
 
-fn tell_counts(group: u64, compared: u64, differ: u64) {
+fn tell_counts(group: u64, t: Tally) {
     tell_name(group);
-    tell(*b" compared ", compared);
-    tell(*b" differed ", differ);
+    tell(*b" compared ", t.compared);
+    tell(*b" differed ", t.differ);
 }
 
 fn tell_case(group: u64, case: u64) {
@@ -125,29 +132,42 @@ fn tell_answers(met: &[u64; 16]) {
     end_line();
 }
 
-// How many differ after one more case.
-fn noted(group: u64, case: u64, v: Verdict, met: &mut [u64; 16], differ: u64) -> u64 {
+// How many cases were compared, and how many of them differ.
+struct Tally {
+    compared: u64,
+    differ: u64,
+}
+
+// The counts after one more case.
+fn noted(group: u64, case: u64, v: Verdict, met: &mut [u64; 16], t: Tally) -> Tally {
     let k = (v.refusal % 16) as usize;
     met[k] = plus(met[k], 1);
-    match pick(v.same | (TOLD <= differ), 0, 1) {
+    match pick(v.same | (TOLD <= t.differ), 0, 1) {
         0 => (),
         _ => tell_case(group, case),
     }
-    plus(differ, pick(v.same, 0, 1))
+    Tally {
+        compared: plus(t.compared, 1),
+        differ: plus(t.differ, pick(v.same, 0, 1)),
+    }
 }
 
-// The cases 0 to n - 1 of a group, and how many differ.
-fn run(group: u64, n: u64) -> u64 {
+// All cases of a group.
+fn run(group: u64) -> Tally {
+    let n = cases_of(group);
     let mut met = [0u64; 16];
-    let mut differ: u64 = 0;
+    let mut t = Tally {
+        compared: 0,
+        differ: 0,
+    };
     let mut i: u64 = 0;
     while i < n {
-        differ = noted(group, i, run_case(group, i), &mut met, differ);
+        t = noted(group, i, run_case(group, i), &mut met, t);
         i += 1;
     }
-    tell_counts(group, n, differ);
+    tell_counts(group, t);
     tell_answers(&met);
-    differ
+    t
 }
 
 fn tell_head() {
@@ -157,17 +177,67 @@ fn tell_head() {
     );
 }
 
-fn main() {
-    tell_head();
-    let cases = CASES;
-    let mut compared: u64 = 0;
-    let mut differ: u64 = 0;
+// Whether a group has cases, and none of them differs.
+fn agrees(compared: u64, differ: u64) -> bool {
+    (0 < compared) & (differ == 0)
+}
+
+// Names a group that does not agree, with its counts; of no cases at all too.
+fn tell_difference(group: u64, compared: u64, differ: u64) {
+    if agrees(compared, differ) {
+        return;
+    }
+    io::write_all(STDOUT_FILENO, b"; ");
+    tell_name(group);
+    io::print_decimal(STDOUT_FILENO, differ);
+    io::write_all(STDOUT_FILENO, b" of ");
+    io::print_decimal(STDOUT_FILENO, compared);
+}
+
+fn tell_differences(compared: &[u64; GROUPS], differ: &[u64; GROUPS]) {
+    io::write_all(STDOUT_FILENO, b"cross_check: DIFFER");
     let mut k: usize = 0;
-    while k < 15 {
-        compared = plus(compared, cases[k]);
-        differ = plus(differ, run(k as u64, cases[k]));
+    while k < GROUPS {
+        tell_difference(k as u64, compared[k], differ[k]);
         k += 1;
     }
-    tell_counts(15, compared, differ);
     end_line();
+}
+
+fn tell_agreement(cases: u64, groups: u64) {
+    io::write_all(STDOUT_FILENO, b"cross_check: ");
+    io::print_decimal(STDOUT_FILENO, cases);
+    io::write_all(STDOUT_FILENO, b" cases in ");
+    io::print_decimal(STDOUT_FILENO, groups);
+    io::write_all(STDOUT_FILENO, b" groups, 0 differ: the two agree\n");
+}
+
+// The last line. The two agree where every group does.
+fn tell_verdict(compared: &[u64; GROUPS], differ: &[u64; GROUPS]) {
+    let mut cases: u64 = 0;
+    let mut agreeing: u64 = 0;
+    let mut k: usize = 0;
+    while k < GROUPS {
+        cases = plus(cases, compared[k]);
+        agreeing = plus(agreeing, pick(agrees(compared[k], differ[k]), 1, 0));
+        k += 1;
+    }
+    match pick(agreeing == GROUPS as u64, 1, 0) {
+        1 => tell_agreement(cases, agreeing),
+        _ => tell_differences(compared, differ),
+    }
+}
+
+fn main() {
+    tell_head();
+    let mut compared = [0u64; GROUPS];
+    let mut differ = [0u64; GROUPS];
+    let mut k: usize = 0;
+    while k < GROUPS {
+        let t = run(k as u64);
+        compared[k] = t.compared;
+        differ[k] = t.differ;
+        k += 1;
+    }
+    tell_verdict(&compared, &differ);
 }

@@ -1,32 +1,32 @@
 // One case of reading, writing and mapping numbers, run by both implementations.
 use crate::calls::Verdict;
-use crate::first::same_byte;
-use crate::first::stands;
-use crate::first::to_i32;
-use crate::first::to_i64;
-use crate::first::word;
+use crate::first::Wrote;
+use crate::first::same_mapping;
+use crate::first::same_number;
+use crate::first::write_number;
+use crate::first::write_numbers;
 use crate::form::Draft;
 use crate::form::laid;
+use crate::form::stands;
 use crate::random::draw;
+use crate::random::short_row;
 use crate::signed::minus;
 use crate::signed::pick;
-use number::Decoded;
-use number::Written;
 
 // A power of 128 with 1 added or taken off, or any number of up to 32 bits.
 fn some_number(case: u64, what: u64) -> u64 {
     let v = draw(case, what);
-    let edges = [
-        129,
-        16385,
-        2097153,
-        268435457,
-        4294967295,
-        v % 128,
-        v % 65536,
-        v % 4294967296,
-    ];
-    minus(edges[(v / 4294967296 % 8) as usize], v / 34359738368 % 3)
+    let n = match v / 4294967296 % 8 {
+        0 => 129,
+        1 => 16385,
+        2 => 2097153,
+        3 => 268435457,
+        4 => 4294967295,
+        5 => v % 128,
+        6 => v % 65536,
+        _ => v % 4294967296,
+    };
+    minus(n, v / 34359738368 % 3)
 }
 
 // Half of them 0, else mostly up to 63, once in 64 far outside.
@@ -42,26 +42,19 @@ pub(crate) fn read(case: u64) -> Verdict {
     let at = some_place(case);
     let end = (draw(case, 341) % 65) as usize;
     let mine = crate::form::read(&bytes, end, at);
-    let next = at % 4294967296 + mine.size % 8;
-    let same = match number::read(&bytes[..end], at) {
-        Decoded::Value { value, next: place } => {
-            (mine.refusal == 0) & (mine.value == value) & (next == place)
-        }
-        Decoded::Refused(n) => same_byte(mine.refusal, n),
-    };
     Verdict {
         refusal: mine.refusal,
-        same: same,
+        same: same_number(bytes, end, at, mine),
     }
 }
 
 // What the first wrote and answered, beside the second's refusal and draft.
-pub(crate) fn agree(w: Written, buf: &[u8; 64], refusal: u64, fill: u8, d: Draft) -> Verdict {
+pub(crate) fn agree(w: Wrote, refusal: u64, fill: u8, d: Draft) -> Verdict {
+    let buf = w.text;
     let text = d.text;
     let accepted = refusal == 0;
-    let mut same = same_byte(refusal, w.refusal);
-    same = same & (w.next as u64 == pick(accepted, d.next as u64, 0));
-    same = same & stands(buf, fill, &text, pick(accepted, 64, 0) as usize);
+    let mut same = (refusal == w.refusal) & (w.next as u64 == pick(accepted, d.next as u64, 0));
+    same = same & stands(&buf, fill, &text, pick(accepted, 64, 0) as usize);
     Verdict {
         refusal: refusal,
         same: same,
@@ -70,63 +63,58 @@ pub(crate) fn agree(w: Written, buf: &[u8; 64], refusal: u64, fill: u8, d: Draft
 
 // The mask of the first `count` numbers.
 fn mask_of(count: usize) -> u64 {
-    let masks = [
-        0u64,
-        1,
-        3,
-        7,
-        15,
-        31,
-        63,
-        127,
-        255,
-        511,
-        1023,
-        2047,
-        4095,
-        8191,
-    ];
-    masks[count % 14]
+    match count {
+        0 => 0,
+        1 => 1,
+        2 => 3,
+        3 => 7,
+        4 => 15,
+        5 => 31,
+        6 => 63,
+        7 => 127,
+        8 => 255,
+        9 => 511,
+        10 => 1023,
+        11 => 2047,
+        12 => 4095,
+        _ => 8191,
+    }
 }
 
 // Up to thirteen numbers, one after the other: two, repeated. A list of one is written by the writer of a single number.
 pub(crate) fn write(case: u64) -> Verdict {
     let a = some_number(case, 350);
     let b = some_number(case, 351);
-    let x = word(a);
-    let y = word(b);
-    let words = [x, y, y, x, y, x, x, x, y, y, y, x, y];
     let v = draw(case, 343);
     let fill = (v % 256) as u8;
     let room = (v / 256 % 65) as usize;
     let count = (v / 32768 % 14) as usize;
     let at = some_place(case);
-    let row = [a, b, b, a, b, a, a, a, b, b, b, a, b];
+    let mut row = [a; 13];
+    row[1] = b;
+    row[4] = b;
+    row[5] = b;
+    row[12] = b;
     let d = laid(&row, mask_of(count), at, fill);
-    let mut buf = [fill; 64];
     let refusal = pick((at <= room) & (d.next <= room), 0, 14);
     if count == 1 {
-        let w = number::write(&mut buf[..room], at, x);
-        return agree(w, &buf, refusal, fill, d);
+        return agree(write_number(fill, room, at, a), refusal, fill, d);
     }
-    let w = number::write_all(&mut buf[..room], at, &words[..count]);
-    agree(w, &buf, refusal, fill, d)
+    agree(write_numbers(fill, room, at, a, b, count), refusal, fill, d)
 }
 
 // Mapping, and mapping back; the size of a written number.
 pub(crate) fn map(case: u64) -> Verdict {
     let n = some_number(case, 350);
-    let d = laid(&[n, 0, 0, 0, 0, 0, 0, 0, 0, 0, 0, 0, 0], 1, 0, 0);
+    let row = short_row(n, 0, 0);
+    let d = laid(&row, 1, 0, 0);
     let m = pick(
         n % 8 == 0,
         minus(18446744073709551615, n / 8 % 3),
         draw(case, 362),
     );
-    let mut same = number::map(to_i32(n)) == word(n);
-    same = same & (number::unmap(m) == to_i64(m));
-    same = same & (number::size(word(n)) == d.next);
     Verdict {
         refusal: 0,
-        same: same,
+        same: same_mapping(n, m, d.next),
     }
 }

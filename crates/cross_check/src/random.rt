@@ -101,77 +101,39 @@ fn argument(case: u64, what: u64, limit: u64) -> u64 {
     )
 }
 
-pub(crate) struct Asked {
-    pub(crate) mode: u64,
-    pub(crate) offset: u64,
-    pub(crate) frequency: u64,
-    pub(crate) maximum: u64,
-    pub(crate) estimated: u64,
-    pub(crate) status: u64,
-    pub(crate) constant: u64,
+// A row that begins with three numbers; the others are 0.
+pub(crate) fn short_row(a: u64, b: u64, c: u64) -> [u64; 13] {
+    let mut row = [0u64; 13];
+    row[0] = a;
+    row[1] = b;
+    row[2] = c;
+    row
 }
 
-// A request, its offset and frequency mapped.
-pub(crate) fn some_request(case: u64) -> Asked {
-    Asked {
-        mode: argument(case, 41, 63),
-        offset: argument(case, 44, 255998),
-        frequency: argument(case, 47, 3355443198),
-        maximum: argument(case, 49, 16000000),
-        estimated: argument(case, 51, 16000000),
-        status: argument(case, 53, 4),
-        constant: argument(case, 55, 4),
-    }
+// A request: its mode, then the fields in order of mode bit, offset and frequency mapped.
+fn request_row(case: u64) -> [u64; 13] {
+    let mut row = short_row(2, argument(case, 41, 63), argument(case, 44, 255998));
+    row[3] = argument(case, 47, 3355443198);
+    row[4] = argument(case, 49, 16000000);
+    row[5] = argument(case, 51, 16000000);
+    row[6] = argument(case, 53, 4);
+    row[7] = argument(case, 55, 4);
+    row
 }
 
 // A setting: its seconds are once in 16 too large by 2^32.
 fn setting_row(case: u64) -> [u64; 13] {
-    let seconds = plus(
-        second(case, 70),
-        pick(draw(case, 73) % 16 == 0, 4294967296, 0),
-    );
-    [
-        1,
-        seconds,
-        argument(case, 76, 999999),
-        0,
-        0,
-        0,
-        0,
-        0,
-        0,
-        0,
-        0,
-        0,
-        0,
-    ]
+    let above = pick(draw(case, 73) % 16 == 0, 4294967296, 0);
+    short_row(1, plus(second(case, 70), above), argument(case, 76, 999999))
 }
 
 // An event of the code: its numbers as they stand in a history.
 pub(crate) fn row(case: u64, code: u64) -> [u64; 13] {
     match code {
         1 => setting_row(case),
-        2 => request_row(some_request(case)),
-        _ => [code, 0, 0, 0, 0, 0, 0, 0, 0, 0, 0, 0, 0],
+        2 => request_row(case),
+        _ => short_row(code, 0, 0),
     }
-}
-
-fn request_row(a: Asked) -> [u64; 13] {
-    [
-        2,
-        a.mode,
-        a.offset,
-        a.frequency,
-        a.maximum,
-        a.estimated,
-        a.status,
-        a.constant,
-        0,
-        0,
-        0,
-        0,
-        0,
-    ]
 }
 
 // Bytes: any, or many of them 0, 127, 128 or 255, or many with the top bit.

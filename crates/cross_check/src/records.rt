@@ -1,18 +1,18 @@
 // One case of writing and reading a record, run by both implementations.
 use crate::calls::Verdict;
-use crate::first::clock_of;
-use crate::first::same_byte;
+use crate::first::same_record;
+use crate::first::write_record;
 use crate::form::laid;
 use crate::form::put_all;
 use crate::numbers::agree;
 use crate::random::Bytes;
 use crate::random::draw;
+use crate::rules::Answer;
 use crate::rules::fits;
 use crate::rules::fresh;
 use crate::rules::row_of;
+use crate::rules::state_of;
 use crate::signed::pick;
-use clock::Clock;
-use number::Written;
 
 // All thirteen numbers.
 const WHOLE: u64 = 8191;
@@ -23,15 +23,9 @@ pub(crate) fn write(case: u64) -> Verdict {
     let row = row_of(s);
     let fill = (draw(case, 500) % 256) as u8;
     let room = (16 + draw(case, 501) % 49) as usize;
-    let mut buf = [fill; 64];
     let d = laid(&row, WHOLE, 0, fill);
     let refusal = pick(fits(&row, 13), pick(d.next <= room, 0, 14), 1);
-    let w = record::write(clock_of(s), &mut buf[..room]);
-    let told = Written {
-        refusal: w.refusal,
-        next: w.length,
-    };
-    agree(told, &buf, refusal, fill, d)
+    agree(write_record(s, fill, room), refusal, fill, d)
 }
 
 // A clock's record, once in 16 of another version and once in 16 other bytes in its place; whole or damaged.
@@ -50,46 +44,30 @@ fn some_record(case: u64) -> Bytes {
     )
 }
 
-// Every field is judged where it stands; bytes after the end come last.
-fn read_refusal(bytes: &[u8; 64], end: usize, row: &mut [u64; 13]) -> u64 {
-    let c = crate::form::take(bytes, end, crate::form::cursor_at(0), WHOLE, row);
+// Every field is judged where it stands; bytes after the end come last. A refused reading gives the fresh clock.
+fn read_record(bytes: &[u8; 64], end: usize) -> Answer {
+    let mut row = [0u64; 13];
+    let c = crate::form::take(bytes, end, crate::form::cursor_at(0), WHOLE, &mut row);
     let trailing = pick(c.next < end, 13, 0);
     let last = pick(c.refusal == 0, trailing, c.refusal);
-    pick(fits(row, c.count), last, 12)
-}
-
-// Two clocks are the same where their records are: the clock that was read is written, which the group above compares.
-fn same_record(row: &[u64; 13], c: Clock) -> Verdict {
-    let mut buf = [0u8; 64];
-    let w = record::write(c, &mut buf);
-    agree(
-        Written {
-            refusal: w.refusal,
-            next: w.length,
+    match pick(fits(&row, c.count), last, 12) {
+        0 => Answer {
+            refusal: 0,
+            state: state_of(&row),
         },
-        &buf,
-        0,
-        0,
-        laid(row, WHOLE, 0, 0),
-    )
-}
-
-fn read_both(bytes: [u8; 64], end: usize) -> Verdict {
-    let mut row = [0u64; 13];
-    let refusal = read_refusal(&bytes, end, &mut row);
-    if refusal != 0 {
-        row = row_of(fresh());
-    }
-    let r = record::read(&bytes[..end % 65]);
-    let v = same_record(&row, r.clock);
-    Verdict {
-        refusal: refusal,
-        same: same_byte(refusal, r.refusal) & v.same,
+        n => Answer {
+            refusal: n,
+            state: fresh(),
+        },
     }
 }
 
 pub(crate) fn read(case: u64) -> Verdict {
     let b = some_record(case);
     let bytes = b.bytes;
-    read_both(bytes, b.end)
+    let a = read_record(&bytes, b.end);
+    Verdict {
+        refusal: a.refusal,
+        same: same_record(bytes, b.end, a),
+    }
 }

@@ -7,7 +7,8 @@ use crate::form::cursor_at;
 use crate::form::take;
 use crate::rules::Answer;
 use crate::rules::State;
-use crate::rules::fresh;
+use crate::rules::step;
+use crate::rules::ticks;
 use crate::signed::pick;
 
 // The most ticks that one event of a compared history may ask for: the second implementation runs them one by one.
@@ -33,28 +34,18 @@ fn event_at(bytes: &[u8; 64], end: usize, at: usize, row: &mut [u64; 13]) -> Cur
     take(bytes, end, c, mask_of(row) / 4 * 4, row)
 }
 
-// Up to n ticks of a sound clock.
-fn ticks(s: State, n: u64) -> Answer {
-    let mut a = Answer {
-        refusal: 0,
-        state: s,
-    };
-    let mut k: u64 = 0;
-    while k < n {
-        a = crate::rules::tick(a.state);
-        if a.refusal != 0 {
-            return a;
-        }
-        k += 1;
-    }
-    a
-}
-
 fn answer_of(s: State, row: &[u64; 13]) -> Answer {
     let code = row[0];
     match code {
-        0 => ticks(s, row[1]),
-        _ => crate::rules::step(s, row),
+        0 => {
+            let r = ticks(s, row[1], false);
+            let state = r.state;
+            Answer {
+                refusal: r.refusal,
+                state: state,
+            }
+        }
+        _ => step(s, row),
     }
 }
 
@@ -126,9 +117,8 @@ pub(crate) struct Replayed {
     pub(crate) over: bool,
 }
 
-// A run before its first event.
-pub(crate) fn begun(end: usize) -> Replayed {
-    let s = fresh();
+// A run from a clock on, before its first event.
+pub(crate) fn begun(s: State, end: usize) -> Replayed {
     Replayed {
         state: s,
         size: 0,
@@ -140,10 +130,16 @@ pub(crate) fn begun(end: usize) -> Replayed {
 }
 
 // A run that ends with a log line, its place `at`.
-pub(crate) fn logged(r: Replayed, refusal: u64, at: usize, out: &mut [u8; 2048]) -> Replayed {
-    let mut next = r;
+fn logged(r: Replayed, refusal: u64, at: usize, out: &mut [u8; 2048]) -> Replayed {
+    let mut next = ended(r);
     next.size = put_line(out, r.size, log_line(refusal, at as u64));
     next.refusal = refusal;
+    next
+}
+
+// A run that has come to the end of its history.
+fn ended(r: Replayed) -> Replayed {
+    let mut next = r;
     next.over = true;
     next
 }
@@ -176,25 +172,34 @@ fn cut(r: Replayed) -> Replayed {
     next
 }
 
-// A run after its next event. One of too many ticks is where the history is cut.
+// A run after its next event, or after its end. One of too many ticks is where the history is cut; of more than 65,536 bytes none is run.
 fn advanced(r: Replayed, bytes: &[u8; 64], out: &mut [u8; 2048]) -> Replayed {
     let mut row = [0u64; 13];
     let at = r.place;
     let c = event_at(bytes, r.end, at, &mut row);
     let long = (row[0] == 0) & (MOST < row[1]);
-    match pick(c.refusal == 0, pick(long, 2, 0), 1) {
+    let next = pick(c.refusal == 0, pick(long, 2, 0), 1);
+    match pick(r.end <= at, 3, pick(65536 < r.end, 4, next)) {
         0 => went_on(r, c.next, &row, out),
         1 => logged(r, c.refusal, at, out),
-        _ => cut(r),
+        2 => cut(r),
+        3 => ended(r),
+        _ => logged(r, 13, 65536, out),
     }
 }
 
-// Runs a history of `end` bytes: at most 64 events, and one turn more to see the end.
-pub(crate) fn replay(bytes: &[u8; 64], end: usize, out: &mut [u8; 2048]) -> Replayed {
-    let mut r = begun(end);
-    let mut left: u64 = 65;
+// A run after the events before `place`, or after its end: a history of up to 64 bytes has no more than 64 events.
+pub(crate) fn caught_up(
+    from: Replayed,
+    place: usize,
+    end: bool,
+    bytes: &[u8; 64],
+    out: &mut [u8; 2048],
+) -> Replayed {
+    let mut r = from;
+    let mut left: u64 = 66;
     while 0 < left {
-        if r.over | (r.end <= r.place) {
+        if r.over | (!end & (place <= r.place)) {
             return r;
         }
         r = advanced(r, bytes, out);

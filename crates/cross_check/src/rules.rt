@@ -67,32 +67,46 @@ pub(crate) fn row_of(s: State) -> [u64; 13] {
     ]
 }
 
-// The largest number at each place of a record. A field from -m to m is mapped to 0 to 2m.
-fn most_of(row: &[u64; 13]) -> [u64; 13] {
-    [
-        1,
-        4294967295,
-        999999,
-        536870910,
-        4194271232,
-        3355443200,
-        pick(row[6] % 2 == 1, 337639423, 606074880),
-        4,
-        1,
-        row[8] % 2 * 4294967295,
-        16000000,
-        16000000,
-        4,
-    ]
+// The state of a record's numbers.
+pub(crate) fn state_of(row: &[u64; 13]) -> State {
+    State {
+        seconds: row[1],
+        micros: row[2],
+        phase: row[3],
+        left: row[4],
+        frequency: row[5],
+        adjustment: row[6],
+        constant: row[7],
+        flag: row[8],
+        earlier: row[9],
+        maximum: row[10],
+        estimated: row[11],
+        status: row[12],
+    }
+}
+
+// The largest number at place k of a record. A field from -m to m is mapped to 0 to 2m.
+fn most_at(row: &[u64; 13], k: usize) -> u64 {
+    match k {
+        1 => 4294967295,
+        2 => 999999,
+        3 => 536870910,
+        4 => 4194271232,
+        5 => 3355443200,
+        6 => pick(row[6] % 2 == 1, 337639423, 606074880),
+        9 => row[8] % 2 * 4294967295,
+        10 | 11 => 16000000,
+        7 | 12 => 4,
+        _ => 1,
+    }
 }
 
 // Whether the first `count` numbers of a record are in range, the version known.
 pub(crate) fn fits(row: &[u64; 13], count: u64) -> bool {
-    let most = most_of(row);
     let mut ok = (count == 0) | (row[0] == 1);
     let mut k: usize = 0;
     while k < 13 {
-        ok = ok & ((count <= k as u64) | (row[k] <= most[k]));
+        ok = ok & ((count <= k as u64) | (row[k] <= most_at(row, k)));
         k += 1;
     }
     ok
@@ -142,7 +156,7 @@ fn rolled(s: State) -> State {
 }
 
 // One tick of a sound clock.
-pub(crate) fn tick(s: State) -> Answer {
+fn tick(s: State) -> Answer {
     let moved = sum(unmapped(s.phase), unmapped(s.adjustment));
     let whole = moved.size / 268435456;
     let grown = plus(s.micros, 3906);
@@ -258,21 +272,65 @@ fn adjust(s: State, row: &[u64; 13]) -> Answer {
     }
 }
 
+// A reading: its state is shown where it is sound.
+pub(crate) fn reading(s: State) -> Answer {
+    Answer {
+        refusal: pick(sound(s), 0, 1),
+        state: s,
+    }
+}
+
 // An event on a clock: code 0 one tick, 1 a setting, 2 a request, 3 a reading.
 pub(crate) fn step(s: State, row: &[u64; 13]) -> Answer {
-    match pick(sound(s), row[0], 4) {
+    let told = reading(s);
+    match pick(told.refusal == 0, row[0], 3) {
         0 => tick(s),
         1 => set(s, row[1], row[2]),
         2 => adjust(s, row),
-        3 => Answer {
-            refusal: 0,
-            state: s,
-        },
-        _ => Answer {
-            refusal: 1,
-            state: s,
-        },
+        _ => told,
     }
+}
+
+// Ticks one after the other: the refusal of the last one, or 0; the clock after the accepted ones; how many were not accepted; and whether
+// no more are to be run.
+pub(crate) struct Ran {
+    pub(crate) refusal: u64,
+    pub(crate) state: State,
+    pub(crate) left: u64,
+    pub(crate) over: bool,
+}
+
+// One tick more. Where `stops` is set none follows a rollover, at which alone the microseconds fall.
+fn ticked(r: Ran, stops: bool) -> Ran {
+    let a = tick(r.state);
+    let now = a.state;
+    let accepted = a.refusal == 0;
+    Ran {
+        refusal: a.refusal,
+        state: now,
+        left: minus(r.left, pick(accepted, 1, 0)),
+        over: !accepted | (stops & (now.micros < r.state.micros)),
+    }
+}
+
+// Up to n ticks.
+pub(crate) fn ticks(s: State, n: u64, stops: bool) -> Ran {
+    let told = reading(s);
+    let mut r = Ran {
+        refusal: told.refusal,
+        state: s,
+        left: n,
+        over: told.refusal != 0,
+    };
+    let mut k: u64 = 0;
+    while k < n {
+        if r.over {
+            return r;
+        }
+        r = ticked(r, stops);
+        k += 1;
+    }
+    r
 }
 
 // What an event shows: the state that an accepted reading tells of, else zeros and status 4.

@@ -55,3 +55,7 @@ pub(crate) fn unmapped(n: u64) -> Signed {
         size: n / 2 + n % 2,
     }
 }
+
+pub(crate) fn wide(b: u8) -> u64 {
+    b as u64
+}

@@ -3,12 +3,15 @@ use Prim.Native.Nat.{_-_, _≤_}
 use borrow.Author.Needs.{needs}
 use Rattle.cross_check.proofs.main.Statement.{statement}
 use Rattle.cross_check.proofs.main.Tie as tie
+use Rattle.cross_check.proofs.run.Reads as run-reads
+use Rattle.cross_check.proofs.tell_head.Reads as tell-head-reads
+use Rattle.cross_check.proofs.tell_verdict.Reads as tell-verdict-reads
 
 abbrev Inv-loop : tie.InvT-loop
-Inv-loop cases compared₀ differ₀ k₀ compared differ k = k ≤ 15
+Inv-loop compared₀ differ₀ k₀ compared differ k = k ≤ 16
 
 abbrev μ-loop : tie.MeasureT-loop
-μ-loop cases compared₀ differ₀ k₀ compared differ k = 15 - k
+μ-loop compared₀ differ₀ k₀ compared differ k = 16 - k
 
 tell-head-requires : tie.Need-tell-head-requires Inv-loop μ-loop
 tell-head-requires c κs = search needs
@@ -16,26 +19,20 @@ tell-head-requires c κs = search needs
 loop-holds : tie.Need-loop-holds Inv-loop μ-loop
 loop-holds c = search needs
 
-mul-plus : tie.Need-mul-plus Inv-loop μ-loop
-mul-plus c = search needs
-
-array-read-plus : tie.Need-array-read-plus Inv-loop μ-loop
-array-read-plus c = search needs
-
-plus-requires : tie.Need-plus-requires Inv-loop μ-loop
-plus-requires c κs = search needs
-
-mul-run : tie.Need-mul-run Inv-loop μ-loop
-mul-run c = search needs
-
-array-read-run : tie.Need-array-read-run Inv-loop μ-loop
-array-read-run c = search needs
-
 run-requires : tie.Need-run-requires Inv-loop μ-loop
 run-requires c κs = search needs
 
-plus-requires-2 : tie.Need-plus-requires-2 Inv-loop μ-loop
-plus-requires-2 c κs = search needs
+mul-compared : tie.Need-mul-compared Inv-loop μ-loop
+mul-compared c = search needs
+
+array-write-compared : tie.Need-array-write-compared Inv-loop μ-loop
+array-write-compared c = search needs
+
+mul-differ : tie.Need-mul-differ Inv-loop μ-loop
+mul-differ c = search needs
+
+array-write-differ : tie.Need-array-write-differ Inv-loop μ-loop
+array-write-differ c = search needs
 
 add-k : tie.Need-add-k Inv-loop μ-loop
 add-k c = search needs
@@ -46,11 +43,8 @@ loop-less c = search needs
 loop-again : tie.Need-loop-again Inv-loop μ-loop
 loop-again c = search needs
 
-tell-counts-requires : tie.Need-tell-counts-requires Inv-loop μ-loop
-tell-counts-requires c κs = search needs
-
-end-line-requires : tie.Need-end-line-requires Inv-loop μ-loop
-end-line-requires c κs = search needs
+tell-verdict-requires : tie.Need-tell-verdict-requires Inv-loop μ-loop
+tell-verdict-requires c κs = search needs
 
 returns : tie.Need-returns Inv-loop μ-loop
 returns c = search needs
@@ -63,16 +57,13 @@ main-spec =
     μ-loop
     tell-head-requires
     loop-holds
-    mul-plus
-    array-read-plus
-    plus-requires
-    mul-run
-    array-read-run
     run-requires
-    plus-requires-2
+    mul-compared
+    array-write-compared
+    mul-differ
+    array-write-differ
     add-k
     loop-less
     loop-again
-    tell-counts-requires
-    end-line-requires
+    tell-verdict-requires
     returns)

@@ -3,16 +3,20 @@ use Prim.Native.Nat.{_-_, _≤_}
 use borrow.Author.Needs.{needs}
 use Rattle.cross_check.proofs.run.Statement.{statement}
 use Rattle.cross_check.proofs.run.Tie as tie
+use Rattle.cross_check.proofs.cases_of.Reads as cases-of-reads
 use Rattle.cross_check.proofs.noted.Reads as noted-reads
 use Rattle.cross_check.proofs.run_case.Reads as run-case-reads
 use Rattle.cross_check.proofs.tell_answers.Reads as tell-answers-reads
 use Rattle.cross_check.proofs.tell_counts.Reads as tell-counts-reads
 
 abbrev Inv-loop : tie.InvT-loop
-Inv-loop group n met₀ differ₀ i₀ met differ i = i ≤ n
+Inv-loop group n met₀ t₀ i₀ met t i = i ≤ n
 
 abbrev μ-loop : tie.MeasureT-loop
-μ-loop group n met₀ differ₀ i₀ met differ i = n - i
+μ-loop group n met₀ t₀ i₀ met t i = n - i
+
+cases-of-requires : tie.Need-cases-of-requires Inv-loop μ-loop
+cases-of-requires c κs = search needs
 
 loop-holds : tie.Need-loop-holds Inv-loop μ-loop
 loop-holds c = search needs
@@ -47,6 +51,7 @@ run-spec =
     (tie.spec
     Inv-loop
     μ-loop
+    cases-of-requires
     loop-holds
     run-case-requires
     noted-requires

@@ -4,7 +4,9 @@ use borrow.Author.Needs.{needs}
 use Rattle.cross_check.proofs.calls.list.Statement.{statement}
 use Rattle.cross_check.proofs.calls.list.Tie as tie
 use Rattle.cross_check.proofs.calls.some_code.Reads as some-code-reads
-use Rattle.cross_check.proofs.calls.stepped.Reads as stepped-reads
+use Rattle.cross_check.proofs.first.same_constants.Reads as same-constants-reads
+use Rattle.cross_check.proofs.first.same_event.Reads as same-event-reads
+use Rattle.cross_check.proofs.first.same_fresh.Reads as same-fresh-reads
 use Rattle.cross_check.proofs.random.row.Reads as row-reads
 use Rattle.cross_check.proofs.rules.fresh.Reads as fresh-reads
 use Rattle.cross_check.proofs.rules.step.Reads as step-reads
@@ -18,6 +20,12 @@ abbrev μ-loop : tie.MeasureT-loop
 
 fresh-requires : tie.Need-fresh-requires Inv-loop μ-loop
 fresh-requires c κs = search needs
+
+same-fresh-requires : tie.Need-same-fresh-requires Inv-loop μ-loop
+same-fresh-requires c κs = search needs
+
+same-constants-requires : tie.Need-same-constants-requires Inv-loop μ-loop
+same-constants-requires c κs = search needs
 
 loop-holds : tie.Need-loop-holds Inv-loop μ-loop
 loop-holds c = search needs
@@ -37,8 +45,8 @@ row-requires c κs = search needs
 step-requires : tie.Need-step-requires Inv-loop μ-loop
 step-requires c κs = search needs
 
-stepped-requires : tie.Need-stepped-requires Inv-loop μ-loop
-stepped-requires c κs = search needs
+same-event-requires : tie.Need-same-event-requires Inv-loop μ-loop
+same-event-requires c κs = search needs
 
 pick-requires : tie.Need-pick-requires Inv-loop μ-loop
 pick-requires c κs = search needs
@@ -62,13 +70,15 @@ list-spec =
     Inv-loop
     μ-loop
     fresh-requires
+    same-fresh-requires
+    same-constants-requires
     loop-holds
     mul-c
     add-c
     some-code-requires
     row-requires
     step-requires
-    stepped-requires
+    same-event-requires
     pick-requires
     add-k
     loop-less

@@ -3,7 +3,7 @@ use Prim.Native.Nat.{_-_, _≤_}
 use borrow.Author.Needs.{needs}
 use Rattle.cross_check.proofs.form.followers.Statement.{statement}
 use Rattle.cross_check.proofs.form.followers.Tie as tie
-use Rattle.cross_check.proofs.first.wide.Reads as wide-reads
+use Rattle.cross_check.proofs.signed.wide.Reads as wide-reads
 use Rattle.cross_check.proofs.signed.minus.Reads as minus-reads
 use Rattle.cross_check.proofs.signed.pick.Reads as pick-reads
 

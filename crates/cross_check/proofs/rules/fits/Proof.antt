@@ -3,16 +3,13 @@ use Prim.Native.Nat.{_-_, _≤_}
 use borrow.Author.Needs.{needs}
 use Rattle.cross_check.proofs.rules.fits.Statement.{statement}
 use Rattle.cross_check.proofs.rules.fits.Tie as tie
-use Rattle.cross_check.proofs.rules.most_of.Reads as most-of-reads
+use Rattle.cross_check.proofs.rules.most_at.Reads as most-at-reads
 
 abbrev Inv-loop : tie.InvT-loop
-Inv-loop row count most ok₀ k₀ ok k = k ≤ 13
+Inv-loop row count ok₀ k₀ ok k = k ≤ 13
 
 abbrev μ-loop : tie.MeasureT-loop
-μ-loop row count most ok₀ k₀ ok k = 13 - k
-
-most-of-requires : tie.Need-most-of-requires Inv-loop μ-loop
-most-of-requires c κs = search needs
+μ-loop row count ok₀ k₀ ok k = 13 - k
 
 element-copy-out-ok : tie.Need-element-copy-out-ok Inv-loop μ-loop
 element-copy-out-ok c = search needs
@@ -26,11 +23,8 @@ mul-ok c = search needs
 element-copy-out-ok-2 : tie.Need-element-copy-out-ok-2 Inv-loop μ-loop
 element-copy-out-ok-2 c = search needs
 
-mul-ok-2 : tie.Need-mul-ok-2 Inv-loop μ-loop
-mul-ok-2 c = search needs
-
-array-read-ok : tie.Need-array-read-ok Inv-loop μ-loop
-array-read-ok c = search needs
+most-at-requires : tie.Need-most-at-requires Inv-loop μ-loop
+most-at-requires c κs = search needs
 
 add-k : tie.Need-add-k Inv-loop μ-loop
 add-k c = search needs
@@ -50,13 +44,11 @@ fits-spec =
     (tie.spec
     Inv-loop
     μ-loop
-    most-of-requires
     element-copy-out-ok
     loop-holds
     mul-ok
     element-copy-out-ok-2
-    mul-ok-2
-    array-read-ok
+    most-at-requires
     add-k
     loop-less
     loop-again

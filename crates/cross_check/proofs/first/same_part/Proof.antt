@@ -1,8 +1,8 @@
--- `cross_check::histories::same_part` ends: every place of the buffer is looked at.
+-- `cross_check::first::same_part` ends: every place of the buffer is looked at.
 use Prim.Native.Nat.{_-_, _≤_}
 use borrow.Author.Needs.{needs}
-use Rattle.cross_check.proofs.histories.same_part.Statement.{statement}
-use Rattle.cross_check.proofs.histories.same_part.Tie as tie
+use Rattle.cross_check.proofs.first.same_part.Statement.{statement}
+use Rattle.cross_check.proofs.first.same_part.Tie as tie
 
 abbrev Inv-loop : tie.InvT-loop
 Inv-loop part out at size same₀ k₀ same k = k ≤ 64

@@ -1,24 +1,28 @@
--- `cross_check::replay::ticks` ends: one turn for each tick.
+-- `cross_check::rules::ticks` ends: one turn for each tick.
 use Prim.Native.Nat.{_-_, _≤_}
 use borrow.Author.Needs.{needs}
-use Rattle.cross_check.proofs.replay.ticks.Statement.{statement}
-use Rattle.cross_check.proofs.replay.ticks.Tie as tie
-use Rattle.cross_check.proofs.rules.tick.Reads as tick-reads
+use Rattle.cross_check.proofs.rules.ticks.Statement.{statement}
+use Rattle.cross_check.proofs.rules.ticks.Tie as tie
+use Rattle.cross_check.proofs.rules.reading.Reads as reading-reads
+use Rattle.cross_check.proofs.rules.ticked.Reads as ticked-reads
 
 abbrev Inv-loop : tie.InvT-loop
-Inv-loop n a₀ k₀ a k = k ≤ n
+Inv-loop n stops r₀ k₀ r k = k ≤ n
 
 abbrev μ-loop : tie.MeasureT-loop
-μ-loop n a₀ k₀ a k = n - k
+μ-loop n stops r₀ k₀ r k = n - k
+
+reading-requires : tie.Need-reading-requires Inv-loop μ-loop
+reading-requires c κs = search needs
 
 loop-holds : tie.Need-loop-holds Inv-loop μ-loop
 loop-holds c = search needs
 
-tick-requires : tie.Need-tick-requires Inv-loop μ-loop
-tick-requires c κs = search needs
-
 returns : tie.Need-returns Inv-loop μ-loop
 returns c = search needs
+
+ticked-requires : tie.Need-ticked-requires Inv-loop μ-loop
+ticked-requires c κs = search needs
 
 add-k : tie.Need-add-k Inv-loop μ-loop
 add-k c = search needs
@@ -38,9 +42,10 @@ ticks-spec =
     (tie.spec
     Inv-loop
     μ-loop
+    reading-requires
     loop-holds
-    tick-requires
     returns
+    ticked-requires
     add-k
     loop-less
     loop-again

@@ -1,19 +1,15 @@
--- `cross_check::replay::replay` ends: at most 65 turns.
+-- `cross_check::replay::caught_up` ends: one turn for each event, and no more than 66.
 use Prim.Native.Nat.{_≤_}
 use borrow.Author.Needs.{needs}
-use Rattle.cross_check.proofs.replay.replay.Statement.{statement}
-use Rattle.cross_check.proofs.replay.replay.Tie as tie
+use Rattle.cross_check.proofs.replay.caught_up.Statement.{statement}
+use Rattle.cross_check.proofs.replay.caught_up.Tie as tie
 use Rattle.cross_check.proofs.replay.advanced.Reads as advanced-reads
-use Rattle.cross_check.proofs.replay.begun.Reads as begun-reads
 
 abbrev Inv-loop : tie.InvT-loop
-Inv-loop bytes end out₀ r₀ left₀ out r left = left ≤ 65
+Inv-loop place end bytes out₀ r₀ left₀ out r left = left ≤ 66
 
 abbrev μ-loop : tie.MeasureT-loop
-μ-loop bytes end out₀ r₀ left₀ out r left = left
-
-begun-requires : tie.Need-begun-requires Inv-loop μ-loop
-begun-requires c κs = search needs
+μ-loop place end bytes out₀ r₀ left₀ out r left = left
 
 loop-holds : tie.Need-loop-holds Inv-loop μ-loop
 loop-holds c = search needs
@@ -36,13 +32,12 @@ loop-again c = search needs
 returns-2 : tie.Need-returns-2 Inv-loop μ-loop
 returns-2 c = search needs
 
-pub replay-spec : {M : Type 1} → statement M
-replay-spec =
+pub caught-up-spec : {M : Type 1} → statement M
+caught-up-spec =
     tie.close
     (tie.spec
     Inv-loop
     μ-loop
-    begun-requires
     loop-holds
     returns
     advanced-requires

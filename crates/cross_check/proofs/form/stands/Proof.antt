@@ -1,8 +1,8 @@
--- `cross_check::first::stands` ends: every place of the buffer is looked at.
+-- `cross_check::form::stands` ends: every place of the buffer is looked at.
 use Prim.Native.Nat.{_-_, _≤_}
 use borrow.Author.Needs.{needs}
-use Rattle.cross_check.proofs.first.stands.Statement.{statement}
-use Rattle.cross_check.proofs.first.stands.Tie as tie
+use Rattle.cross_check.proofs.form.stands.Statement.{statement}
+use Rattle.cross_check.proofs.form.stands.Tie as tie
 
 abbrev Inv-loop : tie.InvT-loop
 Inv-loop buf fill text size same₀ k₀ same k = k ≤ 64

@@ -1,0 +1,38 @@
+-- `cross_check::first::write_record` is safe: the part that is lent is as long as it says.
+use native.Mathlib.Omega.{arith}
+use lib.ListN.{length-take}
+use borrow.Author.Needs.{needs}
+use Rattle.cross_check.proofs.first.write_record.Statement.{statement}
+use Rattle.cross_check.proofs.first.write_record.Tie as tie
+use Rattle.cross_check.proofs.first.clock_of.Reads as clock-of-reads
+use Rattle.cross_check.proofs.signed.wide.Reads as wide-reads
+use Rattle.record.proofs.save.write.Reads as write-reads
+
+clock-of-requires : tie.Need-clock-of-requires
+clock-of-requires c κs = search needs
+
+array-borrow-prefix-buf : tie.Need-array-borrow-prefix-buf
+array-borrow-prefix-buf c = search needs
+
+slice-aggregate-write : tie.Need-slice-aggregate-write
+slice-aggregate-write c = simp length-take (omega arith)
+
+write-requires : tie.Need-write-requires
+write-requires c κs = search needs
+
+wide-requires : tie.Need-wide-requires
+wide-requires c κs = search needs
+
+returns : tie.Need-returns
+returns c = search needs
+
+pub write-record-spec : {M : Type 1} → statement M
+write-record-spec =
+    tie.close
+    (tie.spec
+    clock-of-requires
+    array-borrow-prefix-buf
+    slice-aggregate-write
+    write-requires
+    wide-requires
+    returns)

@@ -1,0 +1,55 @@
+-- `cross_check::histories::long` is safe: the part that is lent is as long as it says.
+use native.Mathlib.Omega.{arith}
+use lib.ListN.{length-take}
+use borrow.Author.Needs.{needs}
+use Rattle.cross_check.proofs.histories.long.Statement.{statement}
+use Rattle.cross_check.proofs.histories.long.Tie as tie
+use Rattle.cross_check.proofs.first.same_replay.Reads as same-replay-reads
+use Rattle.cross_check.proofs.first.same_start.Reads as same-start-reads
+use Rattle.cross_check.proofs.replay.begun.Reads as begun-reads
+use Rattle.cross_check.proofs.rules.fresh.Reads as fresh-reads
+
+add-end : tie.Need-add-end
+add-end c = search needs
+
+fresh-requires : tie.Need-fresh-requires
+fresh-requires c κs = search needs
+
+begun-requires : tie.Need-begun-requires
+begun-requires c κs = search needs
+
+add-room : tie.Need-add-room
+add-room c = search needs
+
+same-start-requires : tie.Need-same-start-requires
+same-start-requires c κs = search needs
+
+array-share-prefix-bytes : tie.Need-array-share-prefix-bytes
+array-share-prefix-bytes c = search needs
+
+slice-aggregate-same-replay : tie.Need-slice-aggregate-same-replay
+slice-aggregate-same-replay c = simp length-take (omega arith)
+
+same-replay-requires : tie.Need-same-replay-requires
+same-replay-requires c κs = search needs
+
+add-t8 : tie.Need-add-t8
+add-t8 c = search needs
+
+returns : tie.Need-returns
+returns c = search needs
+
+pub long-spec : {M : Type 1} → statement M
+long-spec =
+    tie.close
+    (tie.spec
+    add-end
+    fresh-requires
+    begun-requires
+    add-room
+    same-start-requires
+    array-share-prefix-bytes
+    slice-aggregate-same-replay
+    same-replay-requires
+    add-t8
+    returns)
