@@ -139,20 +139,6 @@ signal() {
     done
 }
 
-# The lines of the true kit are understood: nothing has to be proved anew, and each crate is told.
-true_kit() {
-    cp -p target/bin/replay "$work/replay"
-    touch -t 200001010000 target/bin/replay
-    printf '\003' >"$work/bytes"
-    bin/replay <"$work/bytes" >"$work/out" 2>"$work/said"
-    status=$?
-    all=$(sed -n 's/^replay: proving and building the program, \([0-9]*\) crates.*/\1/p' "$work/said")
-    last=$(tail -n 1 "$work/said")
-    [ "$status" -eq 0 ] && [ "$(wc -l <"$work/said")" -eq $((all + 1)) ] || { cat "$work/said"; return 1; }
-    case $last in "replay: $all of $all: replay proved ("*) ;; *) echo "last: $last"; return 1 ;; esac
-    [ "$(cat "$work/out")" = '1970-01-01T00:00:00Z 000000 4' ]
-}
-
 hearing=''
 if env --default-signal=INT true 2>/dev/null; then hearing='env --default-signal=INT'; fi
 tell "the first use of bin/replay" first_use
@@ -162,8 +148,3 @@ tell "bin/replay where a crate is refused" refused_crate
 tell "bin/replay without the kit" no_kit
 tell "a signal to bin/replay" signal
 [ -n "$hearing" ] || pass_over "INT to bin/replay" "nothing can have it heard in the background"
-if command -v rt >/dev/null; then
-    tell "bin/replay with the true kit" true_kit
-else
-    pass_over "bin/replay with the true kit" "it is not on this machine"
-fi
