@@ -41,7 +41,17 @@ all_well() {
     new_gate
     run_gate
     ended_with 0 '15 passed, 0 failed' || return 1
-    printf '%s\n' 'contracts: fine' 'reference: fine' 'rt: ok' 'a test: as it should be' '15 passed, 0 failed' | diff - "$work/out" || return 1
+    cat >"$work/wanted" <<'SAID'
+the layout of the files ('rt fmt' makes it): as it should be
+contracts: fine
+a contract for every public function: as it should be
+reference: fine
+a line of the reference for every public function: as it should be
+rt: ok
+a test: as it should be
+15 passed, 0 failed
+SAID
+    diff "$work/wanted" "$work/out" || return 1
     printf '%s LC_ALL=C\n' rt-fmt contracts reference rt-ci test | diff - "$gate/calls"
 }
 

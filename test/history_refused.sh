@@ -49,6 +49,8 @@ lengths() {
     printf 'print\nrepeat 32768 tick 0\n' | bin/history bytes >"$work/bytes" || return 1
     [ "$(wc -c <"$work/bytes")" -eq 65537 ] && bin/history text <"$work/bytes" >"$work/text" || return 1
     [ "$(wc -l <"$work/text")" -eq 32769 ] || { echo "the text has not all lines"; return 1; }
+    awk 'BEGIN { printf "raw"; for (i = 0; i < 65537; i++) printf " 255"; print "" }' >"$work/raw"
+    bin/history bytes <"$work/raw" | bin/history text | cmp - "$work/raw" || return 1
     printf '\003' >>"$work/bytes"
     status_of bin/history text <"$work/bytes"
     refused_with 1 'history: more than 65537 bytes, where the replay runs 65536 at most' || return 1

@@ -57,7 +57,7 @@ first_use() {
     replay_once || return 1
     [ "$(cat "$kit/calls")" = "check replay, LC_ALL=C, in $repo" ] || { cat "$kit/calls"; return 1; }
     cat >"$work/wanted" <<'SAID'
-replay: proving and building the program, 2 crates; this is done once and takes some minutes
+replay: proving and building the program, 2 crates: some minutes on first use, and seconds for what has not changed
 replay: 1 of 2: part proved (12 s)
 replay: 2 of 2: replay proved (3 s)
 SAID
