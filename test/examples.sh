@@ -1,12 +1,13 @@
-# Every example gives its output, and its text comes back from its bytes.
+# Every example of examples/ and of the documents gives its output, and its text comes back from its bytes.
 # shellcheck shell=sh
 
-example() { # NAME
-    bin/history bytes <"examples/$1.txt" >"$work/bytes" || return 1
+example() { # FILE
+    bin/history bytes <"$1.txt" >"$work/bytes" || return 1
     bin/history text <"$work/bytes" >"$work/text" || return 1
     bin/history bytes <"$work/text" | cmp - "$work/bytes" || return 1
     target/bin/replay <"$work/bytes" >"$work/lines" || return 1
-    cmp "$work/lines" "examples/$1.out"
+    diff "$work/lines" "$1.out" | head -n 10
+    cmp "$work/lines" "$1.out"
 }
 
 each_has_an_output() {
@@ -17,8 +18,7 @@ each_has_an_output() {
     done
 }
 
-for out in examples/*.out; do
-    name=${out##*/}
-    tell "example ${name%.out}" example "${name%.out}"
+for out in examples/*.out docs/*.out; do
+    [ ! -f "$out" ] || tell "${out%.out}" example "${out%.out}"
 done
 tell "an output and a line of the README for every example" each_has_an_output
