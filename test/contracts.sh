@@ -13,10 +13,8 @@ plant() { # ROOT-FILE
 # Whether the planted crate is refused, with this one complaint.
 complains() { # COMPLAINT
     status_of .ci/contracts "$work/planted"
-    [ "$status" -eq 1 ] && [ "$(grep -c ' is public and ' "$work/out")" -eq 1 ] && grep -qxF "contracts: crates/one/src/$1" "$work/out" && return
-    echo "not so: $1; status $status:"
-    cat "$work/out" "$work/said"
-    return 1
+    [ "$status" -eq 1 ] && [ "$(grep -c ' is public and ' "$work/out")" -eq 1 ] &&
+        grep -qxF "contracts: crates/one/src/$1" "$work/out" || shown "not so: $1"
 }
 
 sound_functions='
@@ -43,7 +41,8 @@ pub(crate) fn within(x: u8) -> u8
 accepted() {
     { printf '%s' "$sound_functions"; echo '// pub fn only_said() {}'; echo '/* pub fn said_too() {} */'; } | plant lib.rt
     status_of .ci/contracts "$work/planted"
-    [ "$status" -eq 0 ] && [ "$(cat "$work/out")" = 'contracts: 1 public functions, each with an ensures and none with a requires' ] || { cat "$work/out" "$work/said"; return 1; }
+    echo 'contracts: 1 public functions, each with an ensures and none with a requires' >"$work/wanted"
+    [ "$status" -eq 0 ] && cmp -s "$work/wanted" "$work/out" || shown "not accepted"
 }
 
 no_ensures() {
@@ -147,10 +146,10 @@ elsewhere() {
 nothing_seen() {
     echo 'fn private() {}' | plant lib.rt
     status_of .ci/contracts "$work/planted"
-    [ "$status" -eq 1 ] || { echo "no public function: $status"; return 1; }
+    [ "$status" -eq 1 ] || shown "no public function" || return 1
     echo >"$work/planted/crates.txt"
     status_of .ci/contracts "$work/planted"
-    [ "$status" -eq 2 ] || { echo "no crate: $status"; return 1; }
+    [ "$status" -eq 2 ] || shown "no crate"
 }
 
 tell_awks "contracts: sound functions" accepted

@@ -31,10 +31,8 @@ run_gate() {
 
 # Whether the gate ended with this status and this last line, and left nothing behind.
 ended_with() { # STATUS LINE
-    [ "$status" -eq "$1" ] && [ "$(tail -n 1 "$work/out")" = "$2" ] && [ -z "$(ls "$gate/tmp")" ] && return
-    echo "not so: status $1, $2; status $status, and in its folder $(ls "$gate/tmp")"
-    cat "$work/out" "$work/said"
-    return 1
+    [ "$status" -eq "$1" ] && [ "$(tail -n 1 "$work/out")" = "$2" ] && [ -z "$(ls "$gate/tmp")" ] ||
+        shown "not so: $1, $2, with nothing left behind ($(ls "$gate/tmp"))"
 }
 
 all_well() {
@@ -64,9 +62,13 @@ one_fails() {
         ended_with 1 '2 passed, 1 failed' && grep -qx 'what is wrong' "$work/out" || { echo "$part"; return 1; }
         if grep -q -e rt-ci -e test "$gate/calls"; then echo "$part: the rest was tried"; return 1; fi
     done
-    for row in 'rt-ci=echo "6 passed, 2 failed"; exit 1=14 passed, 2 failed' 'test=echo "4 passed, 1 failed"; exit 1=14 passed, 1 failed' \
-        'rt-ci=echo "6 passed, 0 failed"; exit 2=14 passed, 1 failed' 'rt-ci=exit 0=8 passed, 1 failed' 'test=kill -9 $$=10 passed, 1 failed' \
-        'test=echo "5 passed, 0 failed"; exit 1=15 passed, 1 failed'; do
+    for row in \
+        'rt-ci=echo "6 passed, 2 failed"; exit 1=14 passed, 2 failed' \
+        'test=echo "4 passed, 1 failed"; exit 1=14 passed, 1 failed' \
+        'rt-ci=echo "6 passed, 0 failed"; exit 2=14 passed, 1 failed' \
+        'test=echo "5 passed, 0 failed"; exit 1=15 passed, 1 failed' \
+        'rt-ci=exit 0=8 passed, 1 failed' \
+        'test=kill -9 $$=10 passed, 1 failed'; do
         part=${row%%=*}
         rest=${row#*=}
         new_gate

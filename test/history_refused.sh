@@ -4,7 +4,7 @@
 refused_line() { # LINE WHY
     printf 'tick 1\n%s\n' "$1" >"$work/text"
     status_of bin/history bytes <"$work/text"
-    refused_with 1 "" && [ "$(cat "$work/said")" = "history: line 2: $2: $1" ] || { echo "not so: $1 => $2; said: $(cat "$work/said")"; return 1; }
+    refused_with 1 "" && [ "$(cat "$work/said")" = "history: line 2: $2: $1" ] || shown "not so: $1 => $2"
 }
 
 refused_lines() {

@@ -13,14 +13,10 @@ failed_write() {
     for word in bytes text; do
         printf 'print' >"$work/in"
         [ "$word" = bytes ] || printf '\003' >"$work/in"
-        timeout 20 bin/history "$word" <"$work/in" >/dev/full 2>"$work/said"
-        status=$?
-        [ "$status" -eq 2 ] || { echo "$word to a full device: $status"; return 1; }
-        grep -qx 'history: standard output could not be written' "$work/said" || { echo "said: $(cat "$work/said")"; return 1; }
-        timeout 20 bin/history "$word" <"$work/in" >&- 2>"$work/said"
-        status=$?
-        [ "$status" -eq 2 ] || { echo "$word to a closed output: $status"; return 1; }
-        grep -qx 'history: standard output is closed' "$work/said" || { echo "said: $(cat "$work/said")"; return 1; }
+        status_of sh -c 'exec bin/history "$1" <"$2" >/dev/full' sh "$word" "$work/in"
+        refused_with 2 'history: standard output could not be written' || { echo "$word to a full device"; return 1; }
+        status_of sh -c 'exec bin/history "$1" <"$2" >&-' sh "$word" "$work/in"
+        refused_with 2 'history: standard output is closed' || { echo "$word to a closed output"; return 1; }
     done
 }
 

@@ -41,29 +41,29 @@ MD
 all_named() {
     plant_paths
     status_of .ci/reference "$work/planted"
-    [ "$status" -eq 0 ] && grep -qx 'reference: 7 public functions, each named; 2 of them have more than one public path' "$work/out" || { cat "$work/out" "$work/said"; return 1; }
+    echo 'reference: 7 public functions, each named; 2 of them have more than one public path' >"$work/wanted"
+    [ "$status" -eq 0 ] && cmp -s "$work/wanted" "$work/out" || shown "not accepted"
 }
 
 # The document without a path says that this function is not named.
 not_named() {
-    for row in 'one::plain:one::plain or two::plain' 'one::brought:one::brought' 'one::Cell::get:one::Cell::get' 'one::renamed:one::renamed' \
-        'one::tick:one::tick' 'one::shown::here:one::shown::here or two::shown::here' 'two::own:two::own'; do
-        path=${row%:one*}
-        path=${path%:two*}
-        paths=${row#"$path":}
+    for paths in one::plain' or two::plain' one::brought one::Cell::get one::renamed one::tick one::shown::here' or two::shown::here' two::own; do
+        path=${paths%% *}
         plant_paths
         sed "s/$path\([^:a-z_]\)/one\1/" "$work/planted/docs/REFERENCE.md" >"$work/less" && cp "$work/less" "$work/planted/docs/REFERENCE.md"
         status_of .ci/reference "$work/planted"
-        [ "$status" -eq 1 ] && grep -q ": $paths is not named\$" "$work/out" && grep -qx 'reference: refused; public functions: 7, not named: 1' "$work/out" || { echo "$row"; cat "$work/out" "$work/said"; return 1; }
+        [ "$status" -eq 1 ] && grep -q ": $paths is not named\$" "$work/out" &&
+            grep -qx 'reference: refused; public functions: 7, not named: 1' "$work/out" || shown "$paths" || return 1
     done
 }
 
 leads_nowhere() {
-    for path in one::hidden::brought one::other one::kept one::shown::not_here one::shown::Event::Tock one::Cell::put one::plain::more two::nothing; do
+    for path in one::hidden::brought one::other one::kept one::shown::not_here one::shown::Event::Tock one::Cell::put one::plain::more \
+        two::nothing; do
         plant_paths
         echo "so \`$path\`" >>"$work/planted/docs/REFERENCE.md"
         status_of .ci/reference "$work/planted"
-        [ "$status" -eq 1 ] && grep -qx "reference: docs/REFERENCE.md:4: $path is no public path" "$work/out" || { echo "$path"; cat "$work/out" "$work/said"; return 1; }
+        [ "$status" -eq 1 ] && grep -qx "reference: docs/REFERENCE.md:4: $path is no public path" "$work/out" || shown "$path" || return 1
     done
 }
 
@@ -71,10 +71,10 @@ nothing_there() {
     plant_paths
     : >"$work/planted/docs/REFERENCE.md"
     status_of .ci/reference "$work/planted"
-    [ "$status" -eq 1 ] || { echo "an empty document: $status"; return 1; }
+    [ "$status" -eq 1 ] || shown "an empty document" || return 1
     rm "$work/planted/docs/REFERENCE.md"
     status_of .ci/reference "$work/planted"
-    [ "$status" -eq 2 ] || { echo "no document: $status"; return 1; }
+    [ "$status" -eq 2 ] || shown "no document"
 }
 
 tell_awks "reference: every public path" all_named

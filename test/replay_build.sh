@@ -7,11 +7,12 @@ repo="$work/a repository" kit=$work/kit
 # call, and builds a program that prints its input. It obeys a file `mood`: `fail`, or `wait` for a signal.
 new_repository() {
     rm -rf "$repo" "$kit"
-    mkdir -p "$repo/bin" "$repo/crates/part/src" "$repo/crates/part/must-fail" "$repo/crates/replay/src" "$repo/crates/other/src" "$kit"
+    for folder in bin crates/part/src crates/part/must-fail crates/replay/src crates/other/src; do mkdir -p "$repo/$folder"; done
+    mkdir "$kit"
     cp bin/replay "$repo/bin/replay"
     printf '%s\n' '# crates' 'part:' 'replay: part io # the program' 'other: part' >"$repo/crates.txt"
-    for file in crates/part/src/lib.rt crates/part/src/more.rt crates/part/must-fail/lie.edit crates/replay/src/main.rt crates/other/src/lib.rt; do
-        echo "// $file" >"$repo/$file"
+    for file in part/src/lib.rt part/src/more.rt part/must-fail/lie.edit replay/src/main.rt other/src/lib.rt; do
+        echo "// $file" >"$repo/crates/$file"
     done
     cat >"$kit/rt" <<'KIT'
 #!/bin/sh
@@ -44,7 +45,7 @@ KIT
 replay_once() {
     echo line >"$work/line"
     KIT=$kit PATH=$kit:$PATH status_of "$repo/bin/replay" <"$work/line"
-    [ "$status" -eq 0 ] && [ "$(cat "$work/out")" = line ] || { echo "status $status: $(cat "$work/said")"; return 1; }
+    [ "$status" -eq 0 ] && [ "$(cat "$work/out")" = line ] || shown "a line is lost"
 }
 
 calls() { wc -l <"$kit/calls"; }
@@ -102,7 +103,8 @@ refused_crate() {
     echo fail >"$kit/mood"
     KIT=$kit PATH=$kit:$PATH status_of "$repo/bin/replay" </dev/null
     refused_with 1 'replay: the program could not be built; target/log/ has all that the prover said' || return 1
-    grep -qx 'crates/replay/src/main.rt:3:7: error: a need is left' "$work/said" && grep -qx 'rt: replay NOT PROVED (exit 1, 3 s)' "$work/said" || { cat "$work/said"; return 1; }
+    grep -qx 'crates/replay/src/main.rt:3:7: error: a need is left' "$work/said" || shown "the error is not shown" || return 1
+    grep -qx 'rt: replay NOT PROVED (exit 1, 3 s)' "$work/said" || shown "the crate is not named" || return 1
     if grep -q 'a long line of the prover' "$work/said"; then echo "the whole log is shown"; return 1; fi
     echo good >"$kit/mood"
     replay_once && touch "$repo/crates.txt" && old target/bin/replay || return 1
@@ -115,7 +117,9 @@ refused_crate() {
 no_kit() {
     new_repository
     mkdir -p "$work/tools"
-    for tool in sh awk ls dirname find head mktemp rm mkfifo grep touch wc timeout cat; do ln -sf "$(command -v "$tool")" "$work/tools/$tool"; done
+    for tool in sh awk ls dirname find head mktemp rm mkfifo grep touch wc timeout cat; do
+        ln -sf "$(command -v "$tool")" "$work/tools/$tool"
+    done
     PATH=$work/tools status_of "$repo/bin/replay" </dev/null
     refused_with 2 "replay: the Rattle kit's rt is not on the PATH"
 }

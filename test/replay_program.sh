@@ -33,12 +33,10 @@ failed_late() {
 
 failed_write() {
     printf '\003' >"$work/bytes"
-    timeout 20 bin/replay <"$work/bytes" >/dev/full 2>"$work/said"
-    status=$?
-    [ "$status" -eq 3 ] && grep -q 'replay: standard output' "$work/said" || { echo "a full device: $status, $(cat "$work/said")"; return 1; }
-    timeout 20 bin/replay <"$work/bytes" >&- 2>"$work/said"
-    status=$?
-    [ "$status" -eq 3 ] && grep -q 'replay: standard output' "$work/said" || { echo "a closed output: $status, $(cat "$work/said")"; return 1; }
+    status_of sh -c 'exec bin/replay <"$1" >/dev/full' sh "$work/bytes"
+    refused_with 3 'replay: standard output' || { echo "a full device"; return 1; }
+    status_of sh -c 'exec bin/replay <"$1" >&-' sh "$work/bytes"
+    refused_with 3 'replay: standard output' || { echo "a closed output"; return 1; }
 }
 
 tell "65,536 lines" many_lines
@@ -48,5 +46,5 @@ tell "a failed write of the replay" failed_write
 if perl test/failing_input.pl x true 2>/dev/null; then
     tell "a read of the replay that fails late" failed_late
 else
-    pass_over "a read of the replay that fails late" "there is no perl, or no terminal to be had: that nothing is run then is not tested here"
+    pass_over "a read of the replay that fails late" "there is no perl, or no terminal to be had, so that this is not tested"
 fi

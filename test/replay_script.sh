@@ -15,7 +15,7 @@ no_arguments() {
 replays() { # COMMAND
     printf '\003' >"$work/bytes"
     status_of "$@" <"$work/bytes"
-    [ "$status" -eq 0 ] && [ "$(cat "$work/out")" = '1970-01-01T00:00:00Z 000000 4' ] && [ ! -s "$work/said" ] || { echo "$*: $status, $(cat "$work/said")"; return 1; }
+    [ "$status" -eq 0 ] && [ "$(cat "$work/out")" = '1970-01-01T00:00:00Z 000000 4' ] && [ ! -s "$work/said" ] || shown "$*"
 }
 
 through_links() {
@@ -24,12 +24,13 @@ through_links() {
     ln -sf "a place/straight" "$work/to a link"
     ln -sf "../../to a link" "$work/a place/-> b/far -> off"
     ln -sf "$top/bin" "$work/folder"
-    replays "$work/a place/straight" && replays "$work/to a link" && replays "$work/a place/-> b/far -> off" && replays "$work/folder/replay" || return 1
+    for link in 'a place/straight' 'to a link' 'a place/-> b/far -> off' folder/replay; do replays "$work/$link" || return 1; done
     (cd "$work/a place" && replays ./straight) && (cd "$work" && PATH="$work/a place:$PATH" && replays straight)
 }
 
 from_elsewhere() {
-    (cd / && replays "$top/bin/replay") && (cd bin && replays ./replay) && (CDPATH=/tmp && export CDPATH && replays bin/replay) && replays sh bin/replay
+    (cd / && replays "$top/bin/replay") && (cd bin && replays ./replay) && replays sh bin/replay &&
+        (CDPATH=/tmp && export CDPATH && replays bin/replay)
 }
 
 tell "arguments of bin/replay" no_arguments
