@@ -47,7 +47,8 @@ all_named() {
 
 # The document without a path says that this function is not named.
 not_named() {
-    for paths in one::plain' or two::plain' one::brought one::Cell::get one::renamed one::tick one::shown::here' or two::shown::here' two::own; do
+    for paths in one::plain' or two::plain' one::brought one::Cell::get one::renamed one::tick \
+        one::shown::here' or two::shown::here' two::own; do
         path=${paths%% *}
         plant_paths
         sed "s/$path\([^:a-z_]\)/one\1/" "$work/planted/docs/REFERENCE.md" >"$work/less" && cp "$work/less" "$work/planted/docs/REFERENCE.md"
