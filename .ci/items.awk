@@ -7,7 +7,8 @@
 #   NAME         the item's name, TYPE::NAME for a method or a variant; for a use the name that it brings
 #   REST         for a function 'ensures N requires N', the number of its clauses of each kind; for a use the path that it names
 #
-# It reads files by name, crates/NAME/src/*.rt; comments, strings and what stands in bodies and clauses are passed over.
+# It reads files by name, crates/NAME/src/*.rt; comments, strings and what stands in bodies and clauses are passed over. A file whose braces
+# do not match is not understood: its line is 'lost FILE', and the exit status is 1.
 
 function emit(kind, visibility, name, rest) {
     print kind "\t" visibility "\t" place "\t" module "\t" name "\t" rest
@@ -112,16 +113,24 @@ function type_of_impl(    i, angles, name) {
     return name
 }
 
+# Whether the head ends in a clause's word, which may have a name behind it: `ensures {`, `ensures kept {`. It is counted and taken off.
+function clause(    i) {
+    for (i = heads; i >= heads - 1; i--) {
+        if (head[i] !~ /^(ensures|requires|ghost)$/) continue
+        if (head[i] == "ensures") ensures++
+        if (head[i] == "requires") requires++
+        heads = i - 1
+        return 1
+    }
+    return 0
+}
+
 # A brace opens, outside of what is passed over.
-function opens(    last) {
-    last = head[heads]
+function opens() {
     if (holds("use")) {
         head[++heads] = "{"
         listed = 1
-    } else if (holds("fn") && (last == "ensures" || last == "requires" || last == "ghost")) {
-        if (last == "ensures") ensures++
-        if (last == "requires") requires++
-        heads--
+    } else if (holds("fn") && clause()) {
         skipped = 1
     } else if (holds("fn")) {
         item()
@@ -207,8 +216,17 @@ function module_of(file,    n, part, i, m) {
     return m
 }
 
+# At the end of a file nothing is open.
+function file_ends() {
+    if (!skipped && !depth && !deep && !listed && !heads) return
+    print "lost\t" file
+    lost = 1
+}
+
 FNR == 1 {
-    module = module_of(FILENAME)
+    if (file != "") file_ends()
+    file = FILENAME
+    module = module_of(file)
     depth = skipped = deep = listed = 0
     owner = variants_of = ""
     split("", outer)
@@ -218,4 +236,9 @@ FNR == 1 {
 {
     text = strip($0)
     while (next_word()) take()
+}
+
+END {
+    file_ends()
+    exit lost
 }

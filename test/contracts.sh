@@ -85,8 +85,8 @@ pub fn asks(x: u8) -> u8
 }
 RT
     plant lib.rt <<'RT' && complains 'lib.rt:1: asks is public and has a requires'
-pub fn asks(x: u8) -> u8 ensures { λ r. ⌜ r ≡ x ⌝ } requires
-{ ⌜ x < 9 ⌝ } { x }
+pub fn asks(x: u8) -> u8 ensures same { λ r. ⌜ r ≡ x ⌝ } requires
+small { ⌜ x < 9 ⌝ } { x }
 RT
 }
 
@@ -152,6 +152,23 @@ nothing_seen() {
     [ "$status" -eq 2 ] || shown "no crate"
 }
 
+# A file that is not understood is no success either.
+not_understood() {
+    printf 'pub fn sound()\n    ensures { λ r. ⌜ r ≡ x ⌝ \n{\n}\n' | plant lib.rt
+    status_of .ci/contracts "$work/planted"
+    refused_with 2 'items: it is not understood: crates/one/src/lib.rt'
+}
+
+# In the layout of `rt fmt` a plain search finds the public functions too.
+as_many_as_found() {
+    found=0
+    for name in $(sed -n 's/^\([a-z_0-9]*\):.*/\1/p' crates.txt); do
+        found=$((found + $(cat crates/"$name"/src/*.rt | grep -c '^ *pub \(extern "C" \)\{0,1\}fn ')))
+    done
+    status_of .ci/contracts
+    grep -q "^contracts: $found public functions, " "$work/out" || shown "a search finds $found"
+}
+
 tell_awks "contracts: sound functions" accepted
 tell_awks "contracts: no ensures" no_ensures
 tell_awks "contracts: an ensures in words alone" only_a_comment
@@ -160,3 +177,5 @@ tell_awks "contracts: functions for C" exported
 tell_awks "contracts: methods" methods
 tell_awks "contracts: private modules and programs" elsewhere
 tell_awks "contracts: nothing to be seen" nothing_seen
+tell_awks "contracts: a file that is not understood" not_understood
+tell "contracts: as many functions as a search finds" as_many_as_found
