@@ -1,0 +1,37 @@
+# The bytes of every form of a line, and their text, against stored ones.
+# shellcheck shell=sh
+
+octets() { od -An -v -tx1 | tr ' ' '\n' | sed '/^$/d'; }
+
+stored() {
+    sed 's/#.*//' test/history_forms.hex | tr -s ' ' '\n' | sed '/^$/d' >"$work/hex"
+    bin/history bytes <test/history_forms.txt >"$work/bytes" || return 1
+    octets <"$work/bytes" | diff - "$work/hex" || return 1
+    bin/history text <"$work/bytes" | diff - test/history_forms.plain || return 1
+    bin/history bytes <test/history_forms.plain | cmp - "$work/bytes"
+}
+
+# A line, and the line that `text` writes of it.
+same_as() { # TABLE
+    failures=0
+    while IFS= read -r row; do
+        case $row in '#'* | '') continue ;; esac
+        [ "$(printf '%s\n' "${row%% => *}" | bin/history bytes | bin/history text)" = "${row#* => }" ] && continue
+        echo "not so: $row"
+        failures=$((failures + 1))
+    done <"$1"
+    [ "$failures" -eq 0 ]
+}
+
+# What is not text, but harmless: no newline at the end, line ends of other systems, bytes of any kind in a comment.
+odd_input() {
+    [ "$(printf 'tick 5\nprint' | bin/history bytes | octets | tr -d '\n')" = 000503 ] || { echo "the last line is lost"; return 1; }
+    [ "$(printf 'tick 5\r\n\tprint \r\n' | bin/history bytes | octets | tr -d '\n')" = 000503 ] || { echo "line ends"; return 1; }
+    [ "$(printf 'print # \303\274 \000 \377 \001\n' | bin/history bytes | octets | tr -d '\n')" = 03 ] || { echo "a comment"; return 1; }
+    printf '' | bin/history bytes >"$work/bytes" && [ ! -s "$work/bytes" ] || { echo "no text"; return 1; }
+    printf '' | bin/history text >"$work/text" && [ ! -s "$work/text" ] || { echo "no bytes"; return 1; }
+}
+
+tell_awks "the bytes and the text of every form" stored
+tell_awks "units and decimals" same_as test/history_units.table
+tell_awks "odd text" odd_input

@@ -1,0 +1,21 @@
+# bin/replay with the true kit: its lines are understood. Nothing has to be proved anew for that.
+# shellcheck shell=sh
+
+# The program is made to look old: each crate is told, as one that has not changed.
+true_kit() {
+    touch -t 200001010000 target/bin/replay
+    printf '\003' >"$work/bytes"
+    bin/replay <"$work/bytes" >"$work/out" 2>"$work/said"
+    status=$?
+    all=$(sed -n 's/^replay: proving and building the program, \([0-9]*\) crates.*/\1/p' "$work/said")
+    last=$(tail -n 1 "$work/said")
+    [ "$status" -eq 0 ] && [ "$(wc -l <"$work/said")" -eq $((all + 1)) ] || { cat "$work/said"; return 1; }
+    case $last in "replay: $all of $all: replay proved ("*) ;; *) echo "last: $last"; return 1 ;; esac
+    [ "$(cat "$work/out")" = '1970-01-01T00:00:00Z 000000 4' ]
+}
+
+if command -v rt >/dev/null; then
+    tell "bin/replay with the true kit" true_kit
+else
+    pass_over "bin/replay with the true kit" "it is not on this machine"
+fi

@@ -1,0 +1,38 @@
+# How bin/replay is called: with no argument, from anywhere, through symbolic links.
+# shellcheck shell=sh
+
+no_arguments() {
+    printf '\003' >"$work/bytes"
+    for words in 'x' '--help' '-' "$work/bytes" 'a b'; do
+        # shellcheck disable=SC2086
+        status_of bin/replay $words <"$work/bytes"
+        refused_with 2 'usage: bin/replay <HISTORY >LINES' || { echo "words: $words"; return 1; }
+    done
+    status_of bin/replay '' <"$work/bytes"
+    refused_with 2 'usage: bin/replay <HISTORY >LINES'
+}
+
+replays() { # COMMAND
+    printf '\003' >"$work/bytes"
+    status_of "$@" <"$work/bytes"
+    [ "$status" -eq 0 ] && [ "$(cat "$work/out")" = '1970-01-01T00:00:00Z 000000 4' ] && [ ! -s "$work/said" ] || shown "$*"
+}
+
+through_links() {
+    mkdir -p "$work/a place/-> b"
+    ln -sf "$top/bin/replay" "$work/a place/straight"
+    ln -sf "a place/straight" "$work/to a link"
+    ln -sf "../../to a link" "$work/a place/-> b/far -> off"
+    ln -sf "$top/bin" "$work/folder"
+    for link in 'a place/straight' 'to a link' 'a place/-> b/far -> off' folder/replay; do replays "$work/$link" || return 1; done
+    (cd "$work/a place" && replays ./straight) && (cd "$work" && PATH="$work/a place:$PATH" && replays straight)
+}
+
+from_elsewhere() {
+    (cd / && replays "$top/bin/replay") && (cd bin && replays ./replay) && replays sh bin/replay &&
+        (CDPATH=/tmp && export CDPATH && replays bin/replay)
+}
+
+tell "arguments of bin/replay" no_arguments
+tell "bin/replay from another folder" from_elsewhere
+tell "bin/replay through symbolic links" through_links
