@@ -13,21 +13,21 @@ use crate::signed::pick;
 use crate::signed::unmapped;
 use crate::signed::wide;
 use calendar::Found;
-use clock::Outcome;
-use clock::Reading;
-use clock::Clock;
 use clock::AskedMicros;
+use clock::Clock;
 use clock::Frequency;
 use clock::Micros;
 use clock::OffsetUnits;
+use clock::Outcome;
 use clock::PhaseUnits;
+use clock::Reading;
 use event::Event;
 use number::Decoded;
 use playback::run::Filling;
 use playback::run::Run;
-use request::Request;
 use request::AskedFrequency;
 use request::AskedOffset;
+use request::Request;
 
 fn byte(n: u64) -> u8 {
     (n % 256) as u8
