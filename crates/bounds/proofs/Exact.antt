@@ -1,17 +1,17 @@
 -- The first bound: the clock's time with its phase stays within 15/2^32 us a tick of the exact time.
 use mathlib.Core.Path.{_≡_, refl, sym, subst}
-use mathlib.Core.Bool.{Bool, true, false, cond}
+use mathlib.Core.Bool.{Bool, true, false}
 use mathlib.Core.List.{List, [], _∷_}
 use Prim.Native.Nat.{ℕ, _+_, _-_, _*_, _/_, _≤_, _<_}
 use native.Mathlib.Omega.{arith}
 use borrow.Author.Tests.{ne-eqb}
 use lib.Dec.{eqb}
-use lib.IntN.{ℤ, pos, _+ℤ_, _-ℤ_, _*ℤ_}
+use lib.IntN.{ℤ, pos, _+ℤ_, _*ℤ_}
 use Rattle.integers.proofs.Parts.{posPart, negPart, one-part}
 use Rattle.integers.proofs.Linear.{Diff, self, lit, add, sub, times, timesR, quot, close}
 use Rattle.clock.specs.State.{freshClock}
 use Rattle.clock.specs.Rollover.{rolledOver, adjustmentFor, leapSeconds}
-use Rattle.clock.specs.Tick.{tickOf, advanced, rollsOver, microsGrown, carry, phaseLeft}
+use Rattle.clock.specs.Tick.{tickOf, advanced, microsGrown, carry, phaseLeft}
 use Rattle.clock.specs.Setting.{settingOf}
 use Rattle.clock.specs.declared.state.Clock.{Clock}
 use Rattle.clock.specs.declared.units.AskedMicros.{AskedMicros}
@@ -26,7 +26,7 @@ use Rattle.request.proofs.Accepted.{requested-ok}
 use Rattle.request.proofs.RequestCases as req
 use Rattle.event.specs.declared.event.Event.{Event}
 use Rattle.event.specs.declared.event.Event.the-variants as call
-use Rattle.bounds.specs.Calls.{next, after}
+use Rattle.bounds.specs.Calls.{next, afterBy, after}
 use Rattle.bounds.specs.Book.{Book, emptyBook, tickBook, leapExact, rolloverBook, requestBook, callBook, bookFrom}
 use Rattle.bounds.proofs.Runs.{fresh-ok}
 
@@ -141,7 +141,7 @@ module _ (c : Clock) (b : Book) (i : Inv c b) where
   step-inv call.Reading = i
 
 pub run-inv : (c : Clock) (b : Book) (es : List Event) → Inv c b → Inv (after c es) (bookFrom c b es)
-unfolding after bookFrom
+unfolding afterBy bookFrom
 run-inv c b [] i = i
 run-inv c b (e ∷ es) i = run-inv (next c e) (callBook c e b) es (step-inv c b i e)
 

@@ -1,9 +1,10 @@
 -- The third bound: an accepted tick adds at least 3,905 us, and no other call but a setting moves the time.
-use mathlib.Core.Path.{_≡_, refl, sym, _∙_}
-use mathlib.Core.Bool.{Bool, true, false, _&&_, _||_, not, cond, false≢true, true≢false}
+use mathlib.Core.Path.{_≡_, sym, _∙_}
+use mathlib.Core.Bool.{true, false, not, cond, true≢false}
 use mathlib.Core.List.{List, [], _∷_}
-use Prim.Native.Nat.{ℕ, _+_, _-_, _*_, _≤_, _<_}
+use Prim.Native.Nat.{ℕ, _+_, _*_, _≤_}
 use native.Mathlib.Omega.{arith}
+use borrow.Author.Tests.{not-true}
 use Rattle.integers.proofs.Ranges.{and-true}
 use Rattle.clock.specs.Rollover.{rolledOver, inserts, leapSeconds}
 use Rattle.clock.specs.Tick.{tickOf, microsGrown}
@@ -20,10 +21,10 @@ use Rattle.request.specs.declared.request.Request.{Request}
 use Rattle.request.proofs.RequestCases as req
 use Rattle.event.specs.declared.event.Event.{Event}
 use Rattle.event.specs.declared.event.Event.the-variants as call
-use Rattle.bounds.specs.Calls.{next, after, ticks, setsOrInserts, ticksAmong, neitherSetNorInserted}
+use Rattle.bounds.specs.Calls.{next, afterBy, after, ticks, setsOrInserts, ticksAmong, neitherSetNorInserted}
 use Rattle.bounds.specs.Book.{Book, callBook}
 use Rattle.bounds.specs.Demand.{leastTick}
-use Rattle.bounds.proofs.Exact.{told, Inv, step-inv, not-zero}
+use Rattle.bounds.proofs.Exact.{told, Inv, step-inv}
 
 -- with no inserted second, a rollover does not lose one
 leap-least : (status s : ℕ) → LeapCase status s → inserts status s ≡ false → s ≤ leapSeconds status s
@@ -60,15 +61,11 @@ module _ (c : Clock) (k : Ok c) where
   step-forward (call.Request r) h = request-forward r (req.requestCase c r)
   step-forward call.Reading h = omega arith
 
-not-true' : (b : Bool) → not b ≡ true → b ≡ false
-not-true' true e = absurd (false≢true e)
-not-true' false e = refl
-
 pub forward : (c : Clock) (b : Book) (es : List Event) → Inv c b → neitherSetNorInserted c es ≡ true → told c + leastTick * ticksAmong c es ≤ told (after c es)
-unfolding after neitherSetNorInserted ticksAmong
+unfolding afterBy neitherSetNorInserted ticksAmong
 forward c b [] i h = omega arith
 forward c b (e ∷ es) i h =
     let p = and-true (not (setsOrInserts c e)) (neitherSetNorInserted (next c e) es) h in
-    let one = step-forward c (i .range) e (not-true' (setsOrInserts c e) (p .0)) in
+    let one = step-forward c (i .range) e (not-true (setsOrInserts c e) (p .0)) in
     let rest = forward (next c e) (callBook c e b) es (step-inv c b i e) (p .1) in
     omega (arith, one, rest)

@@ -4,3 +4,4 @@ pub mod Moved
 pub mod Forward
 pub mod Theorem
 pub mod Table
+pub mod ShutOut

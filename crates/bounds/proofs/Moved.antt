@@ -1,17 +1,17 @@
 -- The second bound: from one rollover to the next there are 255, 256 or 257 ticks, and all shares of one offset have its sign, so that
 -- what an offset has moved the clock is within 1/256 of what has been taken off it.
 use mathlib.Core.Path.{_≡_, refl}
-use mathlib.Core.Bool.{Bool, true, false, cond}
+use mathlib.Core.Bool.{Bool, true, false}
 use mathlib.Core.List.{List, [], _∷_}
-use Prim.Native.Nat.{ℕ, _+_, _-_, _*_, _≤_, _<_}
+use Prim.Native.Nat.{ℕ, _+_, _-_, _*_, _≤_}
 use native.Mathlib.Omega.{arith}
 use native.Mathlib.Nat.{mul-le-mul-right}
-use lib.IntN.{ℤ, pos, natAbs, _+ℤ_, _-ℤ_, _*ℤ_}
+use lib.IntN.{ℤ, pos, _+ℤ_, _-ℤ_, _*ℤ_}
 use Rattle.integers.proofs.Parts.{posPart, negPart, one-part, abs-parts}
 use Rattle.integers.proofs.Linear.{Diff, self, lit, add, sub, times}
 use Rattle.clock.specs.State.{freshClock}
 use Rattle.clock.specs.Rollover.{rolledOver, share, offsetLeft}
-use Rattle.clock.specs.Tick.{tickOf, advanced, microsGrown, phaseLeft}
+use Rattle.clock.specs.Tick.{tickOf, microsGrown, phaseLeft}
 use Rattle.clock.specs.Setting.{settingOf}
 use Rattle.clock.specs.declared.state.Clock.{Clock}
 use Rattle.clock.specs.declared.units.AskedMicros.{AskedMicros}
@@ -24,8 +24,8 @@ use Rattle.request.specs.declared.request.Request.{Request}
 use Rattle.request.proofs.RequestCases as req
 use Rattle.event.specs.declared.event.Event.{Event}
 use Rattle.event.specs.declared.event.Event.the-variants as call
-use Rattle.bounds.specs.Calls.{next, after}
-use Rattle.bounds.specs.Book.{Book, emptyBook, tickBook, requestBook, callBook, bookFrom}
+use Rattle.bounds.specs.Calls.{next, afterBy, after}
+use Rattle.bounds.specs.Book.{Book, emptyBook, requestBook, callBook, bookFrom}
 use Rattle.bounds.specs.Demand.{takenOff, MovedAsTaken}
 use Rattle.bounds.proofs.Exact.{Inv, left-diff, step-inv, not-zero}
 
@@ -107,13 +107,11 @@ module _ (c : Clock) (b : Book) (i : Inv c b) where
   counted-ticks : (o j : ℕ) → Count (c .micros .0) (c .phase .0) j → 1000000 ≤ microsGrown c → Ticks o j
   counted-ticks o j h l = record { least = mul-le-mul-right o (ticks-least c b i j h l); most = mul-le-mul-right o (ticks-most c b i j h) }
 
-  ticks-P : (j : ℕ) → Pace (c .micros .0) (c .phase .0) (b .ownShare) j → 1000000 ≤ microsGrown c → Ticks (posPart (b .ownShare)) j
-  ticks-P j (idle p n) l = idle-ticks _ j p
-  ticks-P j (counted h) l = counted-ticks _ j h l
-
-  ticks-N : (j : ℕ) → Pace (c .micros .0) (c .phase .0) (b .ownShare) j → 1000000 ≤ microsGrown c → Ticks (negPart (b .ownShare)) j
-  ticks-N j (idle p n) l = idle-ticks _ j n
-  ticks-N j (counted h) l = counted-ticks _ j h l
+  -- of either part of the own share, which is 0 where there is none
+  ticks-of : {o : ℕ} (j : ℕ) → Pace (c .micros .0) (c .phase .0) (b .ownShare) j
+      → (posPart (b .ownShare) ≡ 0 → negPart (b .ownShare) ≡ 0 → o ≡ 0) → 1000000 ≤ microsGrown c → Ticks o j
+  ticks-of j (idle p n) none l = idle-ticks _ j (none p n)
+  ticks-of j (counted h) none l = counted-ticks _ j h l
 
   pace-tick : (j : ℕ) → Pace (c .micros .0) (c .phase .0) (b .ownShare) j → Pace (microsGrown c) (phaseLeft c) (b .ownShare) (j + 1)
   pace-tick j (idle p n) = idle p n
@@ -141,8 +139,8 @@ module _ (c : Clock) (b : Book) (i : Inv c b) where
         mP = p .mP + posPart (b .ownShare);
         mN = p .mN + negPart (b .ownShare);
         moved = add (p .moved) (self (b .ownShare));
-        P = side-roll (posPart (offsetLeft c)) (posPart (share c)) (rest-posPart c k) (ticks-P (p .j) (p .pace) l) (p .P);
-        N = side-roll (negPart (offsetLeft c)) (negPart (share c)) (rest-negPart c k) (ticks-N (p .j) (p .pace) l) (p .N);
+        P = side-roll (posPart (offsetLeft c)) (posPart (share c)) (rest-posPart c k) (ticks-of (p .j) (p .pace) (λ zero _. zero) l) (p .P);
+        N = side-roll (negPart (offsetLeft c)) (negPart (share c)) (rest-negPart c k) (ticks-of (p .j) (p .pace) (λ _ zero. zero) l) (p .N);
         pace = counted (count-start c b i l);
       })
 
@@ -183,12 +181,12 @@ module _ (c : Clock) (b : Book) (i : Inv c b) where
       let z = (b .moved +ℤ b .ownShare) -ℤ pos 256 *ℤ t in
       let dt = sub (self (b .asked)) (self (c .offset .0)) in
       let dz = sub (add (p .moved) (self (b .ownShare))) (times 256 dt) in
-      let u = side-paid (p .P) (ticks-P (p .j) (p .pace) l) in
-      let v = side-paid (p .N) (ticks-N (p .j) (p .pace) l) in
+      let u = side-paid (p .P) (ticks-of (p .j) (p .pace) (λ zero _. zero) l) in
+      let v = side-paid (p .N) (ticks-of (p .j) (p .pace) (λ _ zero. zero) l) in
       omega (arith, abs-parts z, abs-parts t, dz .eq, dt .eq, u, v, p .P .whole, p .N .whole, one-part z, one-part t, one-part (b .asked))
 
 pub run-paid : (c : Clock) (b : Book) (es : List Event) → Inv c b → Paid c b → Paid (after c es) (bookFrom c b es)
-unfolding after bookFrom
+unfolding afterBy bookFrom
 run-paid c b [] i p = p
 run-paid c b (e ∷ es) i p = run-paid (next c e) (callBook c e b) es (step-inv c b i e) (step-paid c b i e p)
 

@@ -1,25 +1,25 @@
 -- Demand 3 holds of every list of calls.
-use mathlib.Core.Path.{_≡_, refl}
-use mathlib.Core.Bool.{true, _&&_}
+use mathlib.Core.Path.{_≡_}
+use mathlib.Core.Bool.{true}
 use mathlib.Core.List.{List, [], _∷_, _++_}
-use Prim.Native.Nat.{ℕ, _+_, _*_, _≤_, _<_}
+use Prim.Native.Nat.{_+_, _*_}
 use native.Mathlib.Omega.{arith}
-use lib.Dec.{eqb}
 use borrow.Author.Tests.{leb-true}
-use lib.IntN.{ℤ, pos, natAbs, _+ℤ_, _-ℤ_}
-use Rattle.integers.proofs.Parts.{posPart, negPart, one-part, abs-parts}
-use Rattle.integers.proofs.Linear.{Diff, self, lit, add, sub, times}
+use lib.IntN.{ℤ, pos, _+ℤ_, _-ℤ_}
+use Rattle.integers.proofs.Parts.{one-part, abs-parts}
+use Rattle.integers.proofs.Linear.{self, lit, add, sub, times}
 use Rattle.integers.proofs.Ranges.{and-true}
 use Rattle.clock.specs.State.{freshClock}
-use Rattle.clock.specs.Tick.{rollsOver, microsGrown, tickOf}
+use Rattle.clock.specs.Tick.{rollsOver}
 use Rattle.clock.specs.declared.state.Clock.{Clock}
+use Rattle.event.specs.Event.{stepOf}
 use Rattle.event.specs.declared.event.Event.{Event}
 use Rattle.event.specs.declared.event.Event.the-variants.{Tick, Reading}
-use Rattle.bounds.specs.Calls.{after, clockAfter, accepted, rolls, ticksAmong, neitherSetNorInserted}
+use Rattle.bounds.specs.Calls.{afterBy, after, clockAfter, accepted}
 use Rattle.bounds.specs.Book.{Book, emptyBook, bookFrom, bookAfter}
 use Rattle.bounds.specs.Demand.{NearExact, FirstBound, SecondBound, ThirdBound, Demand3OfEveryList}
 use Rattle.bounds.proofs.Runs.{after-append, bookFrom-append, read-ok}
-use Rattle.bounds.proofs.Exact.{told, total, Inv, run-inv, fresh-inv}
+use Rattle.bounds.proofs.Exact.{told, Inv, run-inv, fresh-inv}
 use Rattle.bounds.proofs.Moved.{Paid, run-paid, fresh-paid, paid-bound}
 use Rattle.bounds.proofs.Forward.{forward}
 
@@ -37,7 +37,7 @@ near c b i =
     let dz = sub (lit (4294967296 * told c)) (self (b .exact)) in
     omega (arith, abs-parts z, dz .eq, one-part z, d .eq, i .near .high, i .near .low, i .range .phase)
 
-first : (calls : List Event) → FirstBound calls
+first : (calls : List Event) → FirstBound stepOf calls
 first calls =
     let r = read-ok (clockAfter calls) (inv calls .range) in
     record { accepted = simp r; near = simp r (near (clockAfter calls) (bookAfter calls) (inv calls)) }
@@ -48,7 +48,7 @@ moved-at : (before : List Event) → accepted (clockAfter before) Tick ≡ true 
 unfolding bookFrom
 moved-at before a o = rw (bookFrom-append freshClock emptyBook before (Tick ∷ [])) (simp (a, o))
 
-second : (calls : List Event) → SecondBound calls
+second : (calls : List Event) → SecondBound stepOf calls
 second calls before later e r =
     let c = clockAfter before in
     let b = bookAfter before in
@@ -57,14 +57,14 @@ second calls before later e r =
 
 -- a reading hands back the clock that it got
 clock-read : (before : List Event) → clockAfter (before ++ (Reading ∷ [])) ≡ clockAfter before
-unfolding after
+unfolding afterBy
 clock-read before = after-append freshClock before (Reading ∷ [])
 
 clock-then : (before between : List Event) → clockAfter (before ++ (Reading ∷ between)) ≡ after (clockAfter before) between
-unfolding after
+unfolding afterBy
 clock-then before between = after-append freshClock before (Reading ∷ between)
 
-third : (calls : List Event) → ThirdBound calls
+third : (calls : List Event) → ThirdBound stepOf calls
 third calls before between later e u =
     let c = clockAfter before in
     let h = clock-read before in

@@ -10,19 +10,30 @@ use Rattle.clock.specs.declared.state.Clock.{Clock}
 use Rattle.event.specs.Event.{stepOf}
 use Rattle.event.specs.declared.event.Event.{Event}
 use Rattle.event.specs.declared.event.Event.the-variants.{Tick, Setting, Request, Reading}
+use Rattle.event.specs.declared.event.Stepped.{Stepped}
 
--- the clock that a call hands back
+-- What answers the calls: by the rules it is `stepOf`, which `event::step` promises to be.
+abbrev pub Answers : Type 0
+Answers = Clock → Event → Stepped
+
+-- the clock after some calls, the first of which gets c
+unfoldable pub afterBy : Answers → Clock → List Event → Clock
+afterBy answers c [] = c
+afterBy answers c (e ∷ es) = afterBy answers (answers c e .clock) es
+
+-- the clock after a list of calls "on a clock that starts fresh"
+abbrev pub clockBy : Answers → List Event → Clock
+clockBy answers calls = afterBy answers freshClock calls
+
+-- The same by the rules.
 abbrev pub next : Clock → Event → Clock
 next c e = stepOf c e .clock
 
--- the clock after some calls, the first of which gets c
-unfoldable pub after : Clock → List Event → Clock
-after c [] = c
-after c (e ∷ es) = after (next c e) es
+abbrev pub after : Clock → List Event → Clock
+after c es = afterBy stepOf c es
 
--- the clock after a list of calls "on a clock that starts fresh"
 abbrev pub clockAfter : List Event → Clock
-clockAfter calls = after freshClock calls
+clockAfter calls = clockBy stepOf calls
 
 -- whether c accepts the call
 abbrev pub accepted : Clock → Event → Bool

@@ -6,10 +6,10 @@ use mathlib.Core.Path.{_≡_}
 use mathlib.Core.Bool.{Bool, true, _&&_, cond}
 use mathlib.Core.List.{List, [], _∷_}
 use lib.Dec.{eqb}
-use lib.IntN.{ℤ, pos, negℤ, natAbs}
+use lib.IntN.{ℤ, pos, negℤ}
 use lib.Signed.{leZ}
 use Rattle.clock.specs.Units.{offsetUnits, phaseUnits, frequencyUnits}
-use Rattle.clock.specs.State.{freshClock, statusOk, statusIns, statusDel, statusOop}
+use Rattle.clock.specs.State.{freshClock, errorsOf, whole, statusOk, statusIns, statusDel, statusOop}
 use Rattle.clock.specs.Tick.{carry, rollsOver}
 use Rattle.clock.specs.declared.state.Clock.{Clock}
 use Rattle.event.specs.Event.{stepOf}
@@ -17,65 +17,83 @@ use Rattle.event.specs.declared.event.Event.{Event}
 use Rattle.event.specs.declared.event.Event.the-variants as call
 use Rattle.bounds.specs.Calls.{next}
 
--- What a row names: fields of the clock, c of its last tick, and the refusal of its last call.
-pub data Name : Type 0 where
-  seconds : Name
-  micros : Name
-  phase : Name
-  left : Name
-  frequency : Name
-  adjustment : Name
-  constant : Name
-  updated : Name
-  reftime : Name
-  status : Name
-  carried : Name
-  refusal : Name
+-- The fields of a clock that a row names: those that count, and those that are signed.
+pub data CountField : Type 0 where
+  seconds : CountField
+  constant : CountField
+  updated : CountField
+  reftime : CountField
+  status : CountField
 
-abbrev pub code : Name → ℕ
-code seconds = 0
-code micros = 1
-code phase = 2
-code left = 3
-code frequency = 4
-code adjustment = 5
-code constant = 6
-code updated = 7
-code reftime = 8
-code status = 9
-code carried = 10
-code refusal = 11
+pub data SignedField : Type 0 where
+  phase : SignedField
+  left : SignedField
+  frequency : SignedField
+  adjustment : SignedField
 
-pub record Value : Type 0 where
-  pub name : Name
-  pub value : ℤ
+abbrev pub countCode : CountField → ℕ
+countCode seconds = 0
+countCode constant = 1
+countCode updated = 2
+countCode reftime = 3
+countCode status = 4
+
+abbrev pub signedCode : SignedField → ℕ
+signedCode phase = 0
+signedCode left = 1
+signedCode frequency = 2
+signedCode adjustment = 3
+
+-- What a row starts with, where that is not fresh. No row can start with other microseconds, a negative count, a carry or a refusal:
+-- there is no way to say so.
+pub data Start : Type 0 where
+  countStart : CountField → ℕ → Start
+  signedStart : SignedField → ℤ → Start
 
 infixl 80 _≔_
-abbrev pub _≔_ : Name → ℤ → Value
-n ≔ z = record { name = n; value = z }
+abbrev pub _≔_ : CountField → ℕ → Start
+f ≔ n = countStart f n
 
--- the value that a list gives a name, or else d
-abbrev pub look : List Value → Name → ℤ → ℤ
-look [] n d = d
-look (v ∷ vs) n d = cond (eqb (code (v .name)) (code n)) (v .value) (look vs n d)
+infixl 80 _≔ℤ_
+abbrev pub _≔ℤ_ : SignedField → ℤ → Start
+f ≔ℤ z = signedStart f z
 
--- a fresh clock, but for the fields of a row; no row starts with other microseconds
-abbrev pub given : List Value → Clock
-given vs =
-    record {
-      seconds = natAbs (look vs seconds (pos (freshClock .seconds)));
-      micros = freshClock .micros;
-      phase = phaseUnits (look vs phase (freshClock .phase .0));
-      offset = offsetUnits (look vs left (freshClock .offset .0));
-      frequency = frequencyUnits (look vs frequency (freshClock .frequency .0));
-      adjustment = phaseUnits (look vs adjustment (freshClock .adjustment .0));
-      constant = natAbs (look vs constant (pos (freshClock .constant)));
-      updated = natAbs (look vs updated (pos (freshClock .updated)));
-      reftime = natAbs (look vs reftime (pos (freshClock .reftime)));
-      maxerror = freshClock .maxerror;
-      esterror = freshClock .esterror;
-      status = natAbs (look vs status (pos (freshClock .status)));
-    }
+-- the value that a row starts a field with, or else d
+abbrev pub countOr : List Start → CountField → ℕ → ℕ
+countOr [] f d = d
+countOr (countStart g n ∷ ss) f d = cond (eqb (countCode g) (countCode f)) n (countOr ss f d)
+countOr (signedStart g z ∷ ss) f d = countOr ss f d
+
+abbrev pub signedOr : List Start → SignedField → ℤ → ℤ
+signedOr [] f d = d
+signedOr (countStart g n ∷ ss) f d = signedOr ss f d
+signedOr (signedStart g z ∷ ss) f d = cond (eqb (signedCode g) (signedCode f)) z (signedOr ss f d)
+
+-- a fresh clock, but for the fields of a row
+abbrev pub given : List Start → Clock
+given ss =
+    whole
+    (record {
+      time =
+          record {
+            seconds = countOr ss seconds (freshClock .seconds);
+            micros = freshClock .micros;
+            phase = phaseUnits (signedOr ss phase (freshClock .phase .0));
+          };
+      correction =
+          record {
+            offset = offsetUnits (signedOr ss left (freshClock .offset .0));
+            adjustment = phaseUnits (signedOr ss adjustment (freshClock .adjustment .0));
+          };
+      tuning =
+          record {
+            frequency = frequencyUnits (signedOr ss frequency (freshClock .frequency .0));
+            constant = countOr ss constant (freshClock .constant);
+          };
+      update = record { updated = countOr ss updated (freshClock .updated); reftime = countOr ss reftime (freshClock .reftime) };
+      errors = errorsOf freshClock;
+      status = countOr ss status (freshClock .status);
+    })
 
 -- after some calls: the clock that the last one got, what it was refused with, and the clock that it handed back
 pub record Seen : Type 0 where
@@ -113,27 +131,49 @@ isDone (callOf e) s = true
 isDone (tickTimes n) s = true
 isDone rollover s = rollsOver (s .got) && eqb (s .refused) 0
 
-abbrev pub valueOf : Name → Seen → ℤ
-valueOf seconds s = pos (s .clock .seconds)
-valueOf micros s = pos (s .clock .micros .0)
-valueOf phase s = s .clock .phase .0
-valueOf left s = s .clock .offset .0
-valueOf frequency s = s .clock .frequency .0
-valueOf adjustment s = s .clock .adjustment .0
-valueOf constant s = pos (s .clock .constant)
-valueOf updated s = pos (s .clock .updated)
-valueOf reftime s = pos (s .clock .reftime)
-valueOf status s = pos (s .clock .status)
-valueOf carried s = carry (s .got)
-valueOf refusal s = pos (s .refused)
+-- what a row says is then seen: fields of the clock, c of the last tick, and the refusal of the last call
+pub data Value : Type 0 where
+  countIs : CountField → ℕ → Value
+  signedIs : SignedField → ℤ → Value
+  micros : ℕ → Value
+  carried : ℤ → Value
+  refusal : ℕ → Value
+
+infixl 80 _is_
+abbrev pub _is_ : CountField → ℕ → Value
+f is n = countIs f n
+
+infixl 80 _isℤ_
+abbrev pub _isℤ_ : SignedField → ℤ → Value
+f isℤ z = signedIs f z
+
+abbrev pub countOf : CountField → Clock → ℕ
+countOf seconds c = c .seconds
+countOf constant c = c .constant
+countOf updated c = c .updated
+countOf reftime c = c .reftime
+countOf status c = c .status
+
+abbrev pub signedOf : SignedField → Clock → ℤ
+signedOf phase c = c .phase .0
+signedOf left c = c .offset .0
+signedOf frequency c = c .frequency .0
+signedOf adjustment c = c .adjustment .0
 
 abbrev pub equal : ℤ → ℤ → Bool
 equal a b = leZ a b && leZ b a
 
+abbrev pub isSeen : Value → Seen → Bool
+isSeen (countIs f n) s = eqb (countOf f (s .clock)) n
+isSeen (signedIs f z) s = equal (signedOf f (s .clock)) z
+isSeen (micros n) s = eqb (s .clock .micros .0) n
+isSeen (carried z) s = equal (carry (s .got)) z
+isSeen (refusal n) s = eqb (s .refused) n
+
 -- every value is the one that is seen
 abbrev pub allSeen : List Value → Seen → Bool
 allSeen [] s = true
-allSeen (v ∷ vs) s = equal (valueOf (v .name) s) (v .value) && allSeen vs s
+allSeen (v ∷ vs) s = isSeen v s && allSeen vs s
 
 -- one thing done, and what then holds
 pub record Stage : Type 0 where
@@ -146,7 +186,7 @@ allStages (g ∷ gs) c =
     isDone (g .doing) (does (g .doing) c) && allSeen (g .then) (does (g .doing) c) && allStages gs (does (g .doing) c .clock)
 
 pub record Case : Type 0 where
-  pub from : List Value
+  pub from : List Start
   pub stages : List Stage
 
 abbrev pub allCases : List Case → Bool
@@ -157,7 +197,7 @@ infixl 70 _then_
 abbrev pub _then_ : Doing → List Value → Stage
 d then vs = record { doing = d; then = vs }
 
-abbrev pub row : List Value → List Stage → Case
+abbrev pub row : List Start → List Stage → Case
 row f gs = record { from = f; stages = gs }
 
 -- a request that selects an offset (us), and nothing else
@@ -181,39 +221,39 @@ set s u = call.Setting s (record { 0 = u })
 abbrev pub markedCases : List Case
 markedCases =
     row []
-    (tickTimes 255 then (seconds ≔ pos 0 ∷ micros ≔ pos 996093 ∷ phase ≔ pos 201326592 ∷ []) ∷ [])
+    (tickTimes 255 then (seconds is 0 ∷ micros 996093 ∷ phase isℤ pos 201326592 ∷ []) ∷ [])
     ∷ row []
-    (tickTimes 256 then (seconds ≔ pos 1 ∷ micros ≔ pos 0 ∷ phase ≔ pos 0 ∷ []) ∷ [])
-    ∷ row (constant ≔ pos 0 ∷ frequency ≔ pos 0 ∷ [])
-    (callOf (asks (pos 1000)) then (refusal ≔ pos 0 ∷ [])
-    ∷ rollover then (seconds ≔ pos 1 ∷ left ≔ pos 16368000 ∷ adjustment ≔ pos 68132864 ∷ []) ∷ [])
-    ∷ row (constant ≔ pos 4 ∷ frequency ≔ pos 0 ∷ [])
-    (callOf (asks (pos 1000)) then (refusal ≔ pos 0 ∷ [])
-    ∷ rollover then (seconds ≔ pos 1 ∷ left ≔ pos 16383000 ∷ adjustment ≔ pos 67172864 ∷ []) ∷ [])
-    ∷ row (left ≔ negℤ (pos 1023) ∷ constant ≔ pos 0 ∷ frequency ≔ negℤ (pos 1) ∷ [])
-    (rollover then (seconds ≔ pos 1 ∷ left ≔ negℤ (pos 1023) ∷ adjustment ≔ pos 67108864 ∷ []) ∷ [])
-    ∷ row (seconds ≔ pos 64 ∷ updated ≔ pos 1 ∷ constant ≔ pos 4 ∷ [])
-    (callOf (asks (negℤ (pos 1))) then (refusal ≔ pos 0 ∷ left ≔ negℤ (pos 16384) ∷ frequency ≔ pos 0 ∷ []) ∷ [])
-    ∷ row (seconds ≔ pos 64 ∷ updated ≔ pos 1 ∷ constant ≔ pos 4 ∷ frequency ≔ pos 1000000 ∷ [])
-    (callOf (asks (negℤ (pos 1))) then (refusal ≔ pos 0 ∷ left ≔ negℤ (pos 16384) ∷ frequency ≔ pos 1000000 ∷ []) ∷ [])
-    ∷ row (seconds ≔ pos 5000 ∷ updated ≔ pos 1 ∷ constant ≔ pos 0 ∷ frequency ≔ pos 0 ∷ [])
-    (callOf (asks (pos 127999)) then (refusal ≔ pos 0 ∷ frequency ≔ pos 131070976 ∷ []) ∷ [])
-    ∷ row (phase ≔ pos 268435455 ∷ adjustment ≔ pos 303037440 ∷ [])
-    (tickTimes 1 then (carried ≔ pos 2 ∷ micros ≔ pos 3908 ∷ phase ≔ pos 34601983 ∷ []) ∷ [])
-    ∷ row (phase ≔ negℤ (pos 200000000) ∷ adjustment ≔ negℤ (pos 168819712) ∷ [])
-    (tickTimes 1 then (carried ≔ negℤ (pos 1) ∷ micros ≔ pos 3905 ∷ phase ≔ negℤ (pos 100384256) ∷ []) ∷ [])
-    ∷ row (seconds ≔ pos 86399 ∷ status ≔ pos statusIns ∷ [])
-    (rollover then (seconds ≔ pos 86399 ∷ status ≔ pos statusOop ∷ [])
-    ∷ rollover then (seconds ≔ pos 86400 ∷ status ≔ pos statusOk ∷ []) ∷ [])
-    ∷ row (seconds ≔ pos 86398 ∷ status ≔ pos statusDel ∷ [])
-    (rollover then (seconds ≔ pos 86400 ∷ status ≔ pos statusOk ∷ []) ∷ [])
+    (tickTimes 256 then (seconds is 1 ∷ micros 0 ∷ phase isℤ pos 0 ∷ []) ∷ [])
+    ∷ row (constant ≔ 0 ∷ frequency ≔ℤ pos 0 ∷ [])
+    (callOf (asks (pos 1000)) then (refusal 0 ∷ [])
+    ∷ rollover then (seconds is 1 ∷ left isℤ pos 16368000 ∷ adjustment isℤ pos 68132864 ∷ []) ∷ [])
+    ∷ row (constant ≔ 4 ∷ frequency ≔ℤ pos 0 ∷ [])
+    (callOf (asks (pos 1000)) then (refusal 0 ∷ [])
+    ∷ rollover then (seconds is 1 ∷ left isℤ pos 16383000 ∷ adjustment isℤ pos 67172864 ∷ []) ∷ [])
+    ∷ row (left ≔ℤ negℤ (pos 1023) ∷ constant ≔ 0 ∷ frequency ≔ℤ negℤ (pos 1) ∷ [])
+    (rollover then (seconds is 1 ∷ left isℤ negℤ (pos 1023) ∷ adjustment isℤ pos 67108864 ∷ []) ∷ [])
+    ∷ row (seconds ≔ 64 ∷ updated ≔ 1 ∷ constant ≔ 4 ∷ [])
+    (callOf (asks (negℤ (pos 1))) then (refusal 0 ∷ left isℤ negℤ (pos 16384) ∷ frequency isℤ pos 0 ∷ []) ∷ [])
+    ∷ row (seconds ≔ 64 ∷ updated ≔ 1 ∷ constant ≔ 4 ∷ frequency ≔ℤ pos 1000000 ∷ [])
+    (callOf (asks (negℤ (pos 1))) then (refusal 0 ∷ left isℤ negℤ (pos 16384) ∷ frequency isℤ pos 1000000 ∷ []) ∷ [])
+    ∷ row (seconds ≔ 5000 ∷ updated ≔ 1 ∷ constant ≔ 0 ∷ frequency ≔ℤ pos 0 ∷ [])
+    (callOf (asks (pos 127999)) then (refusal 0 ∷ frequency isℤ pos 131070976 ∷ []) ∷ [])
+    ∷ row (phase ≔ℤ pos 268435455 ∷ adjustment ≔ℤ pos 303037440 ∷ [])
+    (tickTimes 1 then (carried (pos 2) ∷ micros 3908 ∷ phase isℤ pos 34601983 ∷ []) ∷ [])
+    ∷ row (phase ≔ℤ negℤ (pos 200000000) ∷ adjustment ≔ℤ negℤ (pos 168819712) ∷ [])
+    (tickTimes 1 then (carried (negℤ (pos 1)) ∷ micros 3905 ∷ phase isℤ negℤ (pos 100384256) ∷ []) ∷ [])
+    ∷ row (seconds ≔ 86399 ∷ status ≔ statusIns ∷ [])
+    (rollover then (seconds is 86399 ∷ status is statusOop ∷ [])
+    ∷ rollover then (seconds is 86400 ∷ status is statusOk ∷ []) ∷ [])
+    ∷ row (seconds ≔ 86398 ∷ status ≔ statusDel ∷ [])
+    (rollover then (seconds is 86400 ∷ status is statusOk ∷ []) ∷ [])
     ∷ row []
-    (callOf (set 4294967295 996093) then (refusal ≔ pos 0 ∷ [])
-    ∷ tickTimes 1 then (refusal ≔ pos 0 ∷ [])
-    ∷ tickTimes 1 then (refusal ≔ pos 3 ∷ []) ∷ [])
+    (callOf (set 4294967295 996093) then (refusal 0 ∷ [])
+    ∷ tickTimes 1 then (refusal 0 ∷ [])
+    ∷ tickTimes 1 then (refusal 3 ∷ []) ∷ [])
     ∷ row []
-    (callOf (set 4294967295 996094) then (refusal ≔ pos 0 ∷ [])
-    ∷ tickTimes 1 then (refusal ≔ pos 3 ∷ []) ∷ [])
+    (callOf (set 4294967295 996094) then (refusal 0 ∷ [])
+    ∷ tickTimes 1 then (refusal 3 ∷ []) ∷ [])
     ∷ []
 
 abbrev pub MarkedCases : Type 0

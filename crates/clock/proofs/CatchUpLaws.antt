@@ -6,7 +6,7 @@ use native.Mathlib.Omega.{arith}
 use borrow.Author.Tests.{leb-false}
 use Rattle.clock.specs.State.{inRange}
 use Rattle.clock.specs.Tick.{tickOf, tickRefusal, ticked, advanced, microsGrown, rollsOver}
-use Rattle.clock.specs.CatchUp.{caughtUp, ticksToRollover}
+use Rattle.clock.specs.Inner.{caughtUp, ticksToRollover}
 use Rattle.clock.specs.declared.state.Clock.{Clock}
 use Rattle.clock.proofs.Ok.{ok, ok-back}
 use Rattle.clock.proofs.TickLaws.{advanced-ok}

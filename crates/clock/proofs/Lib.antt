@@ -4,3 +4,4 @@ pub mod TickLaws
 pub mod TickCases
 pub mod SettingCases
 pub mod CatchUpLaws
+pub mod ManyTicks

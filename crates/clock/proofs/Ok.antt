@@ -1,14 +1,12 @@
 -- What `inRange` says, as bounds that `omega` reads, and back.
 use mathlib.Core.Path.{_≡_}
-use mathlib.Core.Bool.{Bool, true, _&&_, _||_}
-use Prim.Native.Nat.{ℕ, _≤_, _<_, _*_, _^_}
-use native.Mathlib.Omega.{arith}
-use lib.Dec.{leb, eqb, lit<}
+use mathlib.Core.Bool.{true, _||_}
+use Prim.Native.Nat.{_≤_, _<_}
+use lib.Dec.{eqb, lit<}
 use borrow.Author.Tests.{leb-true, le-leb}
-use lib.IntN.{ℤ}
 use Rattle.integers.proofs.Parts.{posPart, negPart}
 use Rattle.integers.proofs.Ranges.{and-true, true-and, within-parts, parts-within, between-parts, parts-between}
-use Rattle.clock.specs.State.{inRange, lastSecond, greatestError}
+use Rattle.clock.specs.State.{inRange}
 use Rattle.clock.specs.declared.state.Clock.{Clock}
 
 pub record Ok (c : Clock) : Type 0 where
@@ -59,16 +57,4 @@ ok c e =
 
 pub ok-back : (c : Clock) → Ok c → inRange c ≡ true
 unfolding inRange
-ok-back c k =
-    true-and (true-and (true-and (true-and (true-and (true-and (true-and (true-and (true-and (true-and
-    (le-leb _ _ (k .seconds))
-    (le-leb _ _ (k .micros)))
-    (parts-between _ _ (c .phase .0) (k .phase .0) (k .phase .1)))
-    (parts-within _ _ (c .offset .0) (k .offset .0) (k .offset .1)))
-    (parts-within _ _ (c .frequency .0) (k .frequency .0) (k .frequency .1)))
-    (parts-within _ _ (c .adjustment .0) (k .adjustment .0) (k .adjustment .1)))
-    (le-leb _ _ (k .constant)))
-    (true-and (true-and (le-leb _ _ (k .updated)) (le-leb _ _ (k .reftime))) (k .update)))
-    (le-leb _ _ (k .maxerror)))
-    (le-leb _ _ (k .esterror)))
-    (le-leb _ _ (k .status))
+ok-back c k = search (true-and, le-leb, parts-between, parts-within)

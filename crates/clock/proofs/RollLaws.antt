@@ -1,11 +1,12 @@
 -- A rollover: its numbers fit 32 bits, the leap step by its three cases, and the clock stays in its ranges.
 use mathlib.Core.Path.{_≡_, refl}
-use mathlib.Core.Bool.{Bool, true, false, _&&_, cond}
-use Prim.Native.Nat.{ℕ, _+_, _-_, _*_, _/_, _%_, _≤_, _<_, _^_}
+use mathlib.Core.Bool.{Bool, true, false, cond}
+use Prim.Native.Nat.{ℕ, _+_, _*_, _/_, _%_, _≤_, _<_}
 use native.Mathlib.Omega.{arith}
 use native.Mathlib.Nat.{lt-of-le-of-lt, div-le-self, mul-div-le, mul-le-mul-right}
+use borrow.Author.Needs.{needs}
 use lib.Pow.{pow-mono, pow-pos}
-use lib.IntN.{ℤ, pos, _+ℤ_, _-ℤ_, _*ℤ_}
+use lib.IntN.{ℤ, pos, _+ℤ_, _*ℤ_}
 use lib.Signed.{quotZ}
 use lib.Dec.{eqb, lit<}
 use borrow.Author.Tests.{eqb-true}
@@ -110,18 +111,11 @@ module _ (status s : ℕ) where
 
 pub rolled-ok : (c : Clock) → Ok c → c .seconds < 4294967295 → Ok (rolledOver c)
 unfolding rolledOver
-rolled-ok c k h = record {
-  seconds = leap-seconds (c .status) (c .seconds + 1) (omega arith) (leapCase (c .status) (c .seconds + 1));
-  micros = k .micros;
-  phase = k .phase;
-  offset = rest-parts c k;
-  frequency = k .frequency;
-  adjustment = adjustment-parts (share c) (c .frequency .0) (share-parts c k) (k .frequency);
-  constant = k .constant;
-  updated = k .updated;
-  reftime = k .reftime;
-  update = k .update;
-  maxerror = omega arith;
-  esterror = k .esterror;
-  status = leap-status (c .status) (c .seconds + 1) (k .status) (leapCase (c .status) (c .seconds + 1));
-}
+rolled-ok c k h =
+    search (
+      needs,
+      leap-seconds (c .status) (c .seconds + 1) (omega arith) (leapCase (c .status) (c .seconds + 1)),
+      rest-parts c k,
+      adjustment-parts (share c) (c .frequency .0) (share-parts c k) (k .frequency),
+      leap-status (c .status) (c .seconds + 1) (k .status) (leapCase (c .status) (c .seconds + 1)),
+    )

@@ -1,17 +1,17 @@
 -- What a setting answers, by its two cases.
 use mathlib.Core.Path.{_≡_, refl}
-use mathlib.Core.Bool.{Bool, true, false, cond}
-use Prim.Native.Nat.{ℕ, _≤_, _<_}
+use mathlib.Core.Bool.{Bool, true, false}
+use Prim.Native.Nat.{ℕ, _<_}
 use native.Mathlib.Omega.{arith}
+use borrow.Author.Needs.{needs}
 use lib.Dec.{leb, lit<}
 use lib.IntN.{pos}
 use borrow.Author.Tests.{leb-true}
 use Rattle.integers.proofs.Ranges.{and-true}
-use Rattle.clock.specs.State.{inRange, lastSecond}
+use Rattle.clock.specs.State.{inRange, lastSecond, lastMicro}
 use Rattle.clock.specs.Setting.{setTo, settable, settingRefusal, settingOf}
 use Rattle.clock.specs.declared.state.Clock.{Clock}
 use Rattle.clock.specs.declared.units.AskedMicros.{AskedMicros}
-use Rattle.clock.specs.declared.outcome.Outcome.{Outcome}
 use Rattle.clock.proofs.Ok.{Ok, ok}
 use Rattle.clock.proofs.RollLaws.{adjustment-parts}
 
@@ -21,22 +21,8 @@ pub data SettingCase (c : Clock) (s : ℕ) (u : AskedMicros) : Type 0 where
 
 pub set-ok : (c : Clock) (s : ℕ) (u : AskedMicros) → Ok c → settable s u ≡ true → Ok (setTo c s u)
 set-ok c s u k h =
-    let a = and-true (leb s lastSecond) (leb (u .0) 999999) h in
-    record {
-      seconds = leb-true _ _ (a .0);
-      micros = leb-true _ _ (a .1);
-      phase = omega arith;
-      offset = omega arith;
-      frequency = k .frequency;
-      adjustment = adjustment-parts (pos 0) (c .frequency .0) (omega arith) (k .frequency);
-      constant = k .constant;
-      updated = omega arith;
-      reftime = omega arith;
-      update = refl;
-      maxerror = omega arith;
-      esterror = omega arith;
-      status = omega arith;
-    }
+    let a = and-true (leb s lastSecond) (leb (u .0) lastMicro) h in
+    search (needs, leb-true s lastSecond (a .0), leb-true (u .0) lastMicro (a .1), adjustment-parts (pos 0) (c .frequency .0) (omega arith) (k .frequency))
 
 module _ (c : Clock) (s : ℕ) (u : AskedMicros) where
   by-tests : (a b : Bool) → inRange c ≡ a → settable s u ≡ b → SettingCase c s u

@@ -1,15 +1,14 @@
 -- What a tick answers, by its four cases.
 use mathlib.Core.Path.{_≡_, refl}
-use mathlib.Core.Bool.{Bool, true, false, cond}
-use Prim.Native.Nat.{ℕ, _-_, _≤_, _<_}
+use mathlib.Core.Bool.{Bool, true, false}
+use Prim.Native.Nat.{_-_, _≤_, _<_}
 use native.Mathlib.Omega.{arith}
-use lib.Dec.{leb, eqb}
+use lib.Dec.{eqb}
 use borrow.Author.Tests.{leb-true, leb-false, eqb-false}
 use Rattle.clock.specs.State.{inRange, lastSecond}
 use Rattle.clock.specs.Rollover.{rolledOver}
 use Rattle.clock.specs.Tick.{tickOf, tickRefusal, ticked, advanced, rollsOver, microsGrown}
 use Rattle.clock.specs.declared.state.Clock.{Clock}
-use Rattle.clock.specs.declared.outcome.Outcome.{Outcome}
 use Rattle.clock.proofs.Ok.{Ok, ok}
 
 pub data TickCase (c : Clock) : Type 0 where

@@ -65,18 +65,4 @@ module _ (c : Clock) (k : Ok c) where
   grown-eq = omega (arith, abs-parts after, after-parts, posPart-add (pos (c .micros .0 + 3906)) (carry c), carry-parts)
 
   pub advanced-ok : {us : ℕ} → us ≤ 999999 → Ok (advanced c us)
-  advanced-ok h = record {
-    seconds = k .seconds;
-    micros = h;
-    phase = left-parts;
-    offset = k .offset;
-    frequency = k .frequency;
-    adjustment = k .adjustment;
-    constant = k .constant;
-    updated = k .updated;
-    reftime = k .reftime;
-    update = k .update;
-    maxerror = k .maxerror;
-    esterror = k .esterror;
-    status = k .status;
-  }
+  advanced-ok h = search left-parts

@@ -15,7 +15,3 @@ recorder256 =
       least = phaseUnits (negℤ (pos 168819712));
       most = phaseUnits (pos 303037440);
     }
-
--- the constants that the rules take
-abbrev pub device : Device
-device = recorder256

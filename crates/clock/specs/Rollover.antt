@@ -4,14 +4,18 @@ use mathlib.Core.Bool.{Bool, _&&_, cond}
 use lib.Dec.{eqb}
 use lib.IntN.{ℤ, pos, _+ℤ_, _-ℤ_, _*ℤ_}
 use lib.Signed.{quotZ}
-use Rattle.clock.specs.Units.{micros, offsetUnits, phaseUnits, secondsPerDay}
-use Rattle.clock.specs.Device.{device}
-use Rattle.clock.specs.State.{greatestError, statusOk, statusIns, statusDel, statusOop}
+use Rattle.clock.specs.Units.{micros, offsetUnits, phaseUnits, secondsPerDay, lastSecondOfDay}
+use Rattle.clock.specs.Device.{recorder256}
+use Rattle.clock.specs.State.{greatestError, statusOk, statusIns, statusDel, statusOop, tuningOf, updateOf, whole}
 use Rattle.clock.specs.declared.state.Clock.{Clock}
+
+-- README.kern's tolerance of 100 ppm: what a second may add to the maximum error (us)
+abbrev pub tolerance : ℕ
+tolerance = 100
 
 -- "Maximum error + 100, at most 16,000,000" (us)
 abbrev pub maxerrorGrown : ℕ → ℕ
-maxerrorGrown e = min (e + 100) greatestError
+maxerrorGrown e = min (e + tolerance) greatestError
 
 -- 2^(10 + time constant)
 abbrev pub shareDivisor : ℕ → ℕ
@@ -27,7 +31,7 @@ offsetLeft c = c .offset .0 -ℤ share c
 
 -- "Adjustment = 64 x share + frequency / 16 + 67,108,864" (phase units), of a share and a frequency
 abbrev pub adjustmentFor : ℤ → ℤ → ℤ
-adjustmentFor s f = device .scale *ℤ s +ℤ quotZ f (device .divisor) +ℤ device .base .0
+adjustmentFor s f = recorder256 .scale *ℤ s +ℤ quotZ f (recorder256 .divisor) +ℤ recorder256 .base .0
 
 -- "Then at most one of these, by the status before", s being the second that the rollover has reached:
 -- "INS and seconds divisible by 86,400: seconds - 1, OOP."
@@ -36,7 +40,7 @@ inserts status s = eqb status statusIns && eqb (s % secondsPerDay) 0
 
 -- "DEL and seconds mod 86,400 = 86,399: seconds + 1, OK."
 abbrev pub deletes : ℕ → ℕ → Bool
-deletes status s = eqb status statusDel && eqb (s % secondsPerDay) 86399
+deletes status s = eqb status statusDel && eqb (s % secondsPerDay) lastSecondOfDay
 
 -- the second after the step; s is at least 1, and the last second is not one that a step would add to
 abbrev pub leapSeconds : ℕ → ℕ → ℕ
@@ -49,17 +53,12 @@ leapStatus status s = cond (inserts status s) statusOop (cond (deletes status s)
 -- "Seconds + 1", and all of the above.
 unfoldable pub rolledOver : Clock → Clock
 rolledOver c =
-    record {
-      seconds = leapSeconds (c .status) (c .seconds + 1);
-      micros = c .micros;
-      phase = c .phase;
-      offset = offsetUnits (offsetLeft c);
-      frequency = c .frequency;
-      adjustment = phaseUnits (adjustmentFor (share c) (c .frequency .0));
-      constant = c .constant;
-      updated = c .updated;
-      reftime = c .reftime;
-      maxerror = micros (maxerrorGrown (c .maxerror .0));
-      esterror = c .esterror;
+    whole
+    (record {
+      time = record { seconds = leapSeconds (c .status) (c .seconds + 1); micros = c .micros; phase = c .phase };
+      correction = record { offset = offsetUnits (offsetLeft c); adjustment = phaseUnits (adjustmentFor (share c) (c .frequency .0)) };
+      tuning = tuningOf c;
+      update = updateOf c;
+      errors = record { maxerror = micros (maxerrorGrown (c .maxerror .0)); esterror = c .esterror };
       status = leapStatus (c .status) (c .seconds + 1);
-    }
+    })

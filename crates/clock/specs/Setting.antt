@@ -4,7 +4,7 @@ use mathlib.Core.Bool.{Bool, _&&_, not}
 use lib.Dec.{leb}
 use lib.IntN.{pos}
 use Rattle.clock.specs.Units.{micros, offsetUnits, phaseUnits}
-use Rattle.clock.specs.State.{inRange, lastSecond, lastMicro, greatestError, statusBad}
+use Rattle.clock.specs.State.{inRange, lastSecond, lastMicro, statusBad, tuningOf, whole, noUpdate, greatestErrors}
 use Rattle.clock.specs.Refusal.{refuse, answer}
 use Rattle.clock.specs.Rollover.{adjustmentFor}
 use Rattle.clock.specs.declared.state.Clock.{Clock}
@@ -15,20 +15,15 @@ use Rattle.clock.specs.declared.outcome.Outcome.{Outcome}
 -- status BAD. Frequency and time constant stay."
 abbrev pub setTo : Clock → ℕ → AskedMicros → Clock
 setTo c s u =
-    record {
-      seconds = s;
-      micros = micros (u .0);
-      phase = phaseUnits (pos 0);
-      offset = offsetUnits (pos 0);
-      frequency = c .frequency;
-      adjustment = phaseUnits (adjustmentFor (pos 0) (c .frequency .0));
-      constant = c .constant;
-      updated = 0;
-      reftime = 0;
-      maxerror = micros greatestError;
-      esterror = micros greatestError;
+    whole
+    (record {
+      time = record { seconds = s; micros = micros (u .0); phase = phaseUnits (pos 0) };
+      correction = record { offset = offsetUnits (pos 0); adjustment = phaseUnits (adjustmentFor (pos 0) (c .frequency .0)) };
+      tuning = tuningOf c;
+      update = noUpdate;
+      errors = greatestErrors;
       status = statusBad;
-    }
+    })
 
 -- within "the ranges of seconds or microseconds"
 abbrev pub settable : ℕ → AskedMicros → Bool

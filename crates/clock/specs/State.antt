@@ -1,11 +1,15 @@
 -- "The state and its ranges": the table of document 01, field by field, and the fresh clock.
-use Prim.Native.Nat.{ℕ, _*_, _^_}
+use Prim.Native.Nat.{ℕ, _*_, _-_}
 use mathlib.Core.Bool.{Bool, _&&_, _||_}
 use lib.Dec.{leb, eqb}
 use lib.IntN.{ℤ, pos, negℤ}
 use lib.Signed.{leZ, ltZ}
-use Rattle.clock.specs.Units.{micros, offsetUnits, phaseUnits, frequencyUnits, offsetUnitsPerMicro, phaseUnitsPerMicro}
-use Rattle.clock.specs.Device.{device}
+use Rattle.clock.specs.Units.{micros, offsetUnits, phaseUnits, frequencyUnits, offsetUnitsPerMicro, phaseUnitsPerMicro, frequencyUnitsPerPpm, microsPerSecond}
+use Rattle.clock.specs.Device.{recorder256}
+use Rattle.clock.specs.declared.units.Micros.{Micros}
+use Rattle.clock.specs.declared.units.OffsetUnits.{OffsetUnits}
+use Rattle.clock.specs.declared.units.PhaseUnits.{PhaseUnits}
+use Rattle.clock.specs.declared.units.Frequency.{Frequency}
 use Rattle.clock.specs.declared.state.Clock.{Clock}
 
 -- the last second that can be told
@@ -14,7 +18,7 @@ lastSecond = 4294967295
 
 -- the last microsecond of a second
 abbrev pub lastMicro : ℕ
-lastMicro = 999999
+lastMicro = microsPerSecond - 1
 
 -- the size of the greatest offset of a request (us)
 abbrev pub greatestOffset : ℕ
@@ -22,7 +26,7 @@ greatestOffset = 127999
 
 -- the size of the greatest frequency, 100 ppm (frequency units)
 abbrev pub greatestFrequency : ℕ
-greatestFrequency = 100 * 2 ^ 24
+greatestFrequency = 100 * frequencyUnitsPerPpm
 
 abbrev pub greatestConstant : ℕ
 greatestConstant = 4
@@ -74,7 +78,7 @@ abbrev pub frequencyRange : ℤ → Bool
 frequencyRange z = within greatestFrequency z
 
 abbrev pub adjustmentRange : ℤ → Bool
-adjustmentRange z = leZ (device .least .0) z && leZ z (device .most .0)
+adjustmentRange z = leZ (recorder256 .least .0) z && leZ z (recorder256 .most .0)
 
 abbrev pub constantRange : ℕ → Bool
 constantRange n = leb n greatestConstant
@@ -109,20 +113,91 @@ inRange c =
     && errorRange (c .esterror .0)
     && statusRange (c .status)
 
+-- The fields in groups, by what moves them, so that a rule names the groups that it moves and hands on the others whole.
+
+-- moved by ticks and settings
+pub record Time : Type 0 where
+  pub seconds : ℕ
+  pub micros : Micros
+  pub phase : PhaseUnits
+
+-- moved by rollovers and settings, and the offset by requests
+pub record Correction : Type 0 where
+  pub offset : OffsetUnits
+  pub adjustment : PhaseUnits
+
+-- moved by requests alone
+pub record Tuning : Type 0 where
+  pub frequency : Frequency
+  pub constant : ℕ
+
+-- the earlier update: its flag and its second
+pub record Update : Type 0 where
+  pub updated : ℕ
+  pub reftime : ℕ
+
+pub record Errors : Type 0 where
+  pub maxerror : Micros
+  pub esterror : Micros
+
+pub record Groups : Type 0 where
+  pub time : Time
+  pub correction : Correction
+  pub tuning : Tuning
+  pub update : Update
+  pub errors : Errors
+  pub status : ℕ
+
+abbrev pub timeOf : Clock → Time
+timeOf c = record { seconds = c .seconds; micros = c .micros; phase = c .phase }
+
+abbrev pub correctionOf : Clock → Correction
+correctionOf c = record { offset = c .offset; adjustment = c .adjustment }
+
+abbrev pub tuningOf : Clock → Tuning
+tuningOf c = record { frequency = c .frequency; constant = c .constant }
+
+abbrev pub updateOf : Clock → Update
+updateOf c = record { updated = c .updated; reftime = c .reftime }
+
+abbrev pub errorsOf : Clock → Errors
+errorsOf c = record { maxerror = c .maxerror; esterror = c .esterror }
+
+-- the clock of its groups
+abbrev pub whole : Groups → Clock
+whole g =
+    record {
+      seconds = g .time .seconds;
+      micros = g .time .micros;
+      phase = g .time .phase;
+      offset = g .correction .offset;
+      frequency = g .tuning .frequency;
+      adjustment = g .correction .adjustment;
+      constant = g .tuning .constant;
+      updated = g .update .updated;
+      reftime = g .update .reftime;
+      maxerror = g .errors .maxerror;
+      esterror = g .errors .esterror;
+      status = g .status;
+    }
+
+-- no earlier update
+abbrev pub noUpdate : Update
+noUpdate = record { updated = 0; reftime = 0 }
+
+-- both errors at their limit
+abbrev pub greatestErrors : Errors
+greatestErrors = record { maxerror = micros greatestError; esterror = micros greatestError }
+
 -- The column "Fresh".
 abbrev pub freshClock : Clock
 freshClock =
-    record {
-      seconds = 0;
-      micros = micros 0;
-      phase = phaseUnits (pos 0);
-      offset = offsetUnits (pos 0);
-      frequency = frequencyUnits (pos 0);
-      adjustment = device .base;
-      constant = 0;
-      updated = 0;
-      reftime = 0;
-      maxerror = micros greatestError;
-      esterror = micros greatestError;
+    whole
+    (record {
+      time = record { seconds = 0; micros = micros 0; phase = phaseUnits (pos 0) };
+      correction = record { offset = offsetUnits (pos 0); adjustment = recorder256 .base };
+      tuning = record { frequency = frequencyUnits (pos 0); constant = 0 };
+      update = noUpdate;
+      errors = greatestErrors;
       status = statusBad;
-    }
+    })

@@ -5,8 +5,8 @@ use lib.Dec.{leb, eqb}
 use lib.IntN.{ℤ, pos, natAbs, _+ℤ_, _-ℤ_, _*ℤ_}
 use lib.Signed.{quotZ}
 use Rattle.clock.specs.Units.{micros, phaseUnits, phaseUnitsPerMicro, microsPerSecond}
-use Rattle.clock.specs.Device.{device}
-use Rattle.clock.specs.State.{inRange, lastSecond}
+use Rattle.clock.specs.Device.{recorder256}
+use Rattle.clock.specs.State.{inRange, lastSecond, correctionOf, tuningOf, updateOf, errorsOf, whole}
 use Rattle.clock.specs.Refusal.{refuse, answer}
 use Rattle.clock.specs.Rollover.{rolledOver}
 use Rattle.clock.specs.declared.units.Micros.{Micros}
@@ -28,7 +28,7 @@ phaseLeft c = phaseSum c -ℤ carry c *ℤ pos phaseUnitsPerMicro
 
 -- "microseconds grow by 3,906 + c" (us); of a clock in range the sum is not negative
 abbrev pub microsGrown : Clock → ℕ
-microsGrown c = natAbs (pos (c .micros .0 + device .tick .0) +ℤ carry c)
+microsGrown c = natAbs (pos (c .micros .0 + recorder256 .tick .0) +ℤ carry c)
 
 -- "If they reach 1,000,000"
 abbrev pub rollsOver : Clock → Bool
@@ -37,20 +37,15 @@ rollsOver c = leb microsPerSecond (microsGrown c)
 -- the clock with other microseconds and another phase: all that a tick moves before a rollover
 abbrev pub moved : Clock → Micros → PhaseUnits → Clock
 moved c us phase =
-    record {
-      seconds = c .seconds;
-      micros = us;
-      phase = phase;
-      offset = c .offset;
-      frequency = c .frequency;
-      adjustment = c .adjustment;
-      constant = c .constant;
-      updated = c .updated;
-      reftime = c .reftime;
-      maxerror = c .maxerror;
-      esterror = c .esterror;
+    whole
+    (record {
+      time = record { seconds = c .seconds; micros = us; phase = phase };
+      correction = correctionOf c;
+      tuning = tuningOf c;
+      update = updateOf c;
+      errors = errorsOf c;
       status = c .status;
-    }
+    })
 
 -- the clock with the new phase and with us for its microseconds
 abbrev pub advanced : Clock → ℕ → Clock

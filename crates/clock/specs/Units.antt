@@ -1,6 +1,6 @@
 -- The kinds of number, and what they are worth. "An offset unit is 2^-14 us, a phase unit 2^-28 us, a frequency unit 2^-24 ppm."
 -- "Every quotient below drops the fraction towards zero, for negative numbers too": `quotZ` is that quotient, in all of these files.
-use Prim.Native.Nat.{ℕ, _^_}
+use Prim.Native.Nat.{ℕ, _-_, _^_}
 use lib.IntN.{ℤ}
 use Rattle.clock.specs.declared.units.Micros.{Micros}
 use Rattle.clock.specs.declared.units.OffsetUnits.{OffsetUnits}
@@ -27,8 +27,15 @@ offsetUnitsPerMicro = 2 ^ 14
 abbrev pub phaseUnitsPerMicro : ℕ
 phaseUnitsPerMicro = 2 ^ 28
 
+-- "a frequency unit 2^-24 ppm"
+abbrev pub frequencyUnitsPerPpm : ℕ
+frequencyUnitsPerPpm = 2 ^ 24
+
 abbrev pub microsPerSecond : ℕ
 microsPerSecond = 1000000
 
 abbrev pub secondsPerDay : ℕ
 secondsPerDay = 86400
+
+abbrev pub lastSecondOfDay : ℕ
+lastSecondOfDay = secondsPerDay - 1

@@ -1,18 +1,19 @@
 ghost use mathlib.Core.Path.{_≡_};
 ghost use Prim.Native.Nat.{_<_};
-ghost use Rattle.clock.specs.CatchUp.{caughtUp, ticksToRollover};
+ghost use Rattle.clock.specs.Inner.{caughtUp, ticksToRollover};
+use crate::limits::MICROS_PER_SECOND;
 use crate::outcome::Outcome;
 use crate::state::Clock;
 use crate::state::in_range;
-use crate::tick::advance_of;
-use crate::tick::overflow;
+use crate::timer::advance_of;
+use crate::timer::overflow;
 
 // The answer of ticks that stop at a rollover: refusal 0, or that of the first tick that is refused; the clock after the accepted
 // ones; and how many ticks were not accepted.
-pub struct CaughtUp {
-    pub refusal: u8,
-    pub clock: Clock,
-    pub left: u64,
+pub(crate) struct CaughtUp {
+    pub(crate) refusal: u8,
+    pub(crate) clock: Clock,
+    pub(crate) left: u64,
 }
 
 // A tick, of those that were left before it.
@@ -36,7 +37,7 @@ fn caught_up(o: Outcome, left: u64) -> CaughtUp
 }
 
 // Up to n single ticks, none after one that rolls the second over.
-pub fn ticks_to_rollover(c: Clock, n: u64) -> CaughtUp
+pub(crate) fn ticks_to_rollover(c: Clock, n: u64) -> CaughtUp
     ensures { λ r. ⌜ r ≡ ticksToRollover n c ⌝ }
 {
     if !in_range(c) {
@@ -57,7 +58,7 @@ pub fn ticks_to_rollover(c: Clock, n: u64) -> CaughtUp
             ..c
         };
         let a = advance_of(now);
-        if 1000000 <= a.micros.0 {
+        if MICROS_PER_SECOND <= a.micros.0 {
             return caught_up(overflow(now, a), left);
         }
         us = a.micros;

@@ -21,7 +21,7 @@ pub struct Device {
 }
 
 // The 256 Hz recorder.
-pub const RECORDER: Device = Device {
+pub const RECORDER_256: Device = Device {
     rate: 256,
     tick: Micros(3906),
     scale: 64,
@@ -35,5 +35,5 @@ pub const RECORDER: Device = Device {
 pub fn device_constants() -> Device
     ensures { λ r. ⌜ r ≡ recorder256 ⌝ }
 {
-    RECORDER
+    RECORDER_256
 }

@@ -1,5 +1,6 @@
 ghost use mathlib.Core.Path.{_≡_};
 ghost use Rattle.clock.specs.Reading.{readingOf};
+use crate::limits::TIME_BAD;
 use crate::state::Clock;
 use crate::state::in_range;
 use crate::units::Micros;
@@ -27,7 +28,7 @@ pub fn read(c: Clock) -> Told
         let none = Reading {
             seconds: 0,
             micros: Micros(0),
-            status: 4,
+            status: TIME_BAD,
             maxerror: Micros(0),
             esterror: Micros(0),
         };

@@ -3,31 +3,39 @@ ghost use mathlib.Core.Bool.{true};
 ghost use Prim.Native.Nat.{_≤_, _<_};
 ghost use lib.IntN.{pos};
 ghost use Rattle.clock.specs.Units.{micros, offsetUnits, phaseUnits};
-ghost use Rattle.clock.specs.State.{within, greatestError, greatestFrequency, inRange, lastSecond};
+ghost use Rattle.clock.specs.State.{within, greatestConstant, greatestError, greatestFrequency, inRange, lastSecond};
 ghost use Rattle.clock.specs.Rollover.{maxerrorGrown, shareDivisor, share, adjustmentFor, rolledOver};
 ghost use Rattle.clock.specs.Inner.{greatestShare, leapOf};
-use crate::device::RECORDER;
+use crate::device::RECORDER_256;
+use crate::limits::MAX_ERROR;
+use crate::limits::SECONDS_PER_DAY;
+use crate::limits::TIME_DEL;
+use crate::limits::TIME_INS;
+use crate::limits::TIME_OK;
+use crate::limits::TIME_OOP;
 use crate::state::Clock;
-use crate::state::MAX_ERROR;
 use crate::units::Frequency;
 use crate::units::Micros;
 use crate::units::OffsetUnits;
 use crate::units::PhaseUnits;
 
-// The maximum error a second later: README.kern's tolerance of 100 ppm.
+// README.kern's tolerance of 100 ppm: what a second may add to the maximum error (us).
+const TOLERANCE: u32 = 100;
+
+// The maximum error a second later.
 fn maxerror_grown(e: Micros) -> Micros
     requires { ⌜ e .0 ≤ greatestError ⌝ }
     ensures { λ r. ⌜ r ≡ micros (maxerrorGrown (e .0)) ⌝ }
 {
-    if e.0 <= MAX_ERROR - 100 {
-        Micros(e.0 + 100)
+    if e.0 <= MAX_ERROR - TOLERANCE {
+        Micros(e.0 + TOLERANCE)
     } else {
         Micros(MAX_ERROR)
     }
 }
 
 fn share_divisor(constant: u8) -> i32
-    requires { ⌜ constant ≤ 4 ⌝ }
+    requires { ⌜ constant ≤ greatestConstant ⌝ }
     ensures { λ r. ⌜ r ≡ pos (shareDivisor constant) ⌝ }
 {
     match constant {
@@ -52,8 +60,10 @@ pub(crate) fn adjustment_for(s: OffsetUnits, f: Frequency) -> PhaseUnits
     requires { ⌜ within greatestFrequency (f .0) ≡ true ⌝ }
     ensures { λ r. ⌜ r ≡ phaseUnits (adjustmentFor (s .0) (f .0)) ⌝ }
 {
-    PhaseUnits(RECORDER.scale * s.0 + f.0 / RECORDER.divisor + RECORDER.base.0)
+    PhaseUnits(RECORDER_256.scale * s.0 + f.0 / RECORDER_256.divisor + RECORDER_256.base.0)
 }
+
+const LAST_SECOND_OF_DAY: u32 = SECONDS_PER_DAY - 1;
 
 // The second and the status that a leap step leads to.
 struct Leap {
@@ -66,35 +76,35 @@ fn leap_step(status: u8, s: u32) -> Leap
     ensures { λ r. ⌜ r ≡ leapOf status s ⌝ }
 {
     match status {
-        1 => {
-            if s % 86400 == 0 {
+        TIME_INS => {
+            if s % SECONDS_PER_DAY == 0 {
                 Leap {
                     seconds: s - 1,
-                    status: 3,
+                    status: TIME_OOP,
                 }
             } else {
                 Leap {
                     seconds: s,
-                    status: 1,
+                    status: TIME_INS,
                 }
             }
         }
-        2 => {
-            if s % 86400 == 86399 {
+        TIME_DEL => {
+            if s % SECONDS_PER_DAY == LAST_SECOND_OF_DAY {
                 Leap {
                     seconds: s + 1,
-                    status: 0,
+                    status: TIME_OK,
                 }
             } else {
                 Leap {
                     seconds: s,
-                    status: 2,
+                    status: TIME_DEL,
                 }
             }
         }
-        3 => Leap {
+        TIME_OOP => Leap {
             seconds: s,
-            status: 0,
+            status: TIME_OK,
         },
         _ => Leap {
             seconds: s,

@@ -1,11 +1,12 @@
 ghost use mathlib.Core.Path.{_≡_};
 ghost use Rattle.clock.specs.Setting.{settingOf};
+use crate::limits::LAST_MICRO;
+use crate::limits::LAST_SECOND;
+use crate::limits::MAX_ERROR;
+use crate::limits::TIME_BAD;
 use crate::outcome::Outcome;
 use crate::rollover::adjustment_for;
 use crate::state::Clock;
-use crate::state::LAST_MICRO;
-use crate::state::LAST_SECOND;
-use crate::state::MAX_ERROR;
 use crate::state::in_range;
 use crate::units::AskedMicros;
 use crate::units::Micros;
@@ -41,7 +42,7 @@ pub fn set(c: Clock, seconds: u64, micros: AskedMicros) -> Outcome
         reftime: 0,
         maxerror: Micros(MAX_ERROR),
         esterror: Micros(MAX_ERROR),
-        status: 4,
+        status: TIME_BAD,
         ..c
     };
     Outcome {

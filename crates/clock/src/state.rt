@@ -1,40 +1,21 @@
 ghost use mathlib.Core.Path.{_≡_};
 ghost use Rattle.clock.specs.State.{inRange, freshClock};
-use crate::device::RECORDER;
+use crate::device::RECORDER_256;
+use crate::limits::LAST_MICRO;
+use crate::limits::LAST_SECOND;
+use crate::limits::MAX_CONSTANT;
+use crate::limits::MAX_ERROR;
+use crate::limits::MAX_FREQUENCY;
+use crate::limits::MAX_OFFSET;
+use crate::limits::MIN_FREQUENCY;
+use crate::limits::MIN_OFFSET;
+use crate::limits::PHASE_LOWER_END;
+use crate::limits::PHASE_UPPER_END;
+use crate::limits::TIME_BAD;
 use crate::units::Frequency;
 use crate::units::Micros;
 use crate::units::OffsetUnits;
-use crate::units::PHASE_PER_MICRO;
 use crate::units::PhaseUnits;
-
-// The last second that the clock can tell.
-pub const LAST_SECOND: u32 = 4294967295;
-
-// The last microsecond of a second.
-pub const LAST_MICRO: u32 = 999999;
-
-// The phase is above -2^28 and below 2^28 phase units, a microsecond.
-pub const PHASE_BELOW: i32 = PHASE_PER_MICRO;
-
-pub const PHASE_ABOVE: i32 = -PHASE_PER_MICRO;
-
-// The most and the least that can be left of an offset: 127,999 us, in offset units.
-pub const MAX_OFFSET: i32 = 127999 * 16384;
-
-pub const MIN_OFFSET: i32 = -MAX_OFFSET;
-
-// The greatest and the least frequency: 100 ppm, in frequency units.
-pub const MAX_FREQUENCY: i32 = 100 * 16777216;
-
-pub const MIN_FREQUENCY: i32 = -MAX_FREQUENCY;
-
-pub const MAX_CONSTANT: u8 = 4;
-
-// The limit of both errors (us).
-pub const MAX_ERROR: u32 = 16000000;
-
-// The last of the status codes.
-pub const TIME_BAD: u8 = 4;
 
 // A clock's state, in the order of document 01's table. Any value of the type may be handed in, sound or not.
 pub struct Clock {
@@ -68,10 +49,10 @@ pub fn in_range(c: Clock) -> bool
     // Every u32 is a second that can be told: the tests of `seconds` and `reftime` always hold, and cost nothing.
     (c.seconds <= LAST_SECOND)
         & (c.micros.0 <= LAST_MICRO)
-        & ((PHASE_ABOVE < c.phase.0) & (c.phase.0 < PHASE_BELOW))
+        & ((PHASE_LOWER_END < c.phase.0) & (c.phase.0 < PHASE_UPPER_END))
         & ((MIN_OFFSET <= c.offset.0) & (c.offset.0 <= MAX_OFFSET))
         & ((MIN_FREQUENCY <= c.frequency.0) & (c.frequency.0 <= MAX_FREQUENCY))
-        & ((RECORDER.least.0 <= c.adjustment.0) & (c.adjustment.0 <= RECORDER.most.0))
+        & ((RECORDER_256.least.0 <= c.adjustment.0) & (c.adjustment.0 <= RECORDER_256.most.0))
         & (c.constant <= MAX_CONSTANT)
         & ((c.updated <= 1) & (c.reftime <= LAST_SECOND) & ((c.updated == 1) | (c.reftime == 0)))
         & (c.maxerror.0 <= MAX_ERROR)
@@ -83,7 +64,7 @@ pub fn in_range(c: Clock) -> bool
 pub fn fresh() -> Clock
     ensures { λ r. ⌜ r ≡ freshClock ⌝ }
 {
-    let base = RECORDER.base;
+    let base = RECORDER_256.base;
     Clock {
         seconds: 0,
         micros: Micros(0),

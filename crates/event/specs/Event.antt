@@ -1,5 +1,4 @@
 -- One event on a clock: the rule that applies to it, and its answer.
-use Prim.Native.Nat.{ℕ}
 use Rattle.clock.specs.Tick.{tickOf}
 use Rattle.clock.specs.Setting.{settingOf}
 use Rattle.clock.specs.Reading.{readingOf, noReading}

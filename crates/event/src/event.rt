@@ -1,15 +1,16 @@
 ghost use mathlib.Core.Path.{_≡_};
 ghost use Rattle.event.specs.Event.{stepWith, stepOf};
-use clock::outcome::Outcome;
-use clock::reading::Reading;
-use clock::reading::read;
-use clock::setting::set;
-use clock::state::Clock;
-use clock::tick::tick;
-use clock::units::AskedMicros;
-use clock::units::Micros;
-use request::request::Request;
-use request::request::adjust;
+use clock::AskedMicros;
+use clock::Clock;
+use clock::Micros;
+use clock::Outcome;
+use clock::Reading;
+use clock::TIME_BAD;
+use clock::read;
+use clock::set;
+use clock::tick;
+use request::Request;
+use request::adjust;
 
 // What can happen to a clock.
 pub enum Event {
@@ -38,7 +39,7 @@ fn step_with(o: Outcome) -> Stepped
         reading: Reading {
             seconds: 0,
             micros: Micros(0),
-            status: 4,
+            status: TIME_BAD,
             maxerror: Micros(0),
             esterror: Micros(0),
         },

@@ -1,12 +1,12 @@
 -- An integer as a difference of two naturals: `Diff z p n` says that z is p - n. The difference of a sum is had from those of its
 -- summands, so that a linear statement on integers becomes one on naturals, with no case split for `omega`.
-use mathlib.Core.Path.{_≡_, refl, sym, ap, _∙_, subst}
-use Prim.Native.Nat.{ℕ, zero, suc, _+_, _*_, _-_, _/_, _≤_, _<_}
+use mathlib.Core.Path.{_≡_, refl, sym, ap, _∙_}
+use Prim.Native.Nat.{ℕ, _+_, _*_, _-_, _/_, _≤_}
 use native.Mathlib.Omega.{arith}
 use native.Mathlib.Nat.{mul-add, add-mul}
-use lib.IntN.{ℤ, pos, negsuc, negℤ, natAbs, _+ℤ_, _-ℤ_, _*ℤ_}
+use lib.IntN.{ℤ, pos, negℤ, _+ℤ_, _-ℤ_, _*ℤ_}
 use lib.Signed.{quotZ}
-use Rattle.integers.proofs.Parts.{posPart, negPart, parts, posPart-add, negPart-add, posPart-neg, negPart-neg, posPart-times, negPart-times, times-posPart, times-negPart, posPart-quot, negPart-quot, one-part}
+use Rattle.integers.proofs.Parts.{posPart, negPart, parts}
 
 pub record Diff (z : ℤ) (p n : ℕ) : Type 0 where
   pub eq : posPart z + n ≡ p + negPart z

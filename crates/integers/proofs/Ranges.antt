@@ -1,11 +1,11 @@
 -- Ranges of integers, tested by `leZ` and `ltZ`, as bounds on both parts; and conjunctions of tests taken apart and put together.
 use mathlib.Core.Path.{_≡_, refl}
 use mathlib.Core.Bool.{Bool, true, false, _&&_, false≢true}
-use Prim.Native.Nat.{ℕ, suc, _+_, _≤_, _<_}
+use Prim.Native.Nat.{ℕ, _≤_, _<_}
 use native.Mathlib.Omega.{arith}
 use lib.IntN.{ℤ, pos, negℤ}
 use lib.Signed.{leZ, ltZ}
-use Rattle.integers.proofs.Parts.{posPart, negPart, parts, one-part, posPart-neg, negPart-neg, le-parts, parts-le, lt-parts, parts-lt}
+use Rattle.integers.proofs.Parts.{posPart, negPart, one-part, posPart-neg, negPart-neg, le-parts, parts-le, lt-parts, parts-lt}
 
 pub and-true : (a b : Bool) → a && b ≡ true → (a ≡ true) × (b ≡ true)
 and-true true b e = (refl, e)

@@ -1,20 +1,21 @@
 -- What a request that is not refused is known to be, and that it keeps the clock in its ranges.
-use mathlib.Core.Path.{_≡_, refl, sym, _∙_}
+use mathlib.Core.Path.{_≡_, refl, sym}
 use mathlib.Core.Bool.{Bool, true, false, _&&_, _||_, not, cond, true≢false}
-use Prim.Native.Nat.{ℕ, _+_, _*_, _≤_, _<_}
+use Prim.Native.Nat.{ℕ, _*_, _≤_, _<_}
 use native.Mathlib.Omega.{arith}
+use borrow.Author.Needs.{needs}
 use lib.Dec.{ltb, eqb, lit<}
 use borrow.Author.Tests.{ltb-false, not-false}
 use lib.IntN.{ℤ, pos, _*ℤ_}
 use Rattle.integers.proofs.Parts.{posPart, negPart, parts}
-use Rattle.integers.proofs.Ranges.{within-parts, between-parts}
+use Rattle.integers.proofs.Ranges.{and-true, within-parts, between-parts}
 use Rattle.clock.specs.State.{inRange, within, strictlyWithin, greatestOffset, greatestFrequency, greatestConstant, greatestError, statusOk, statusBad}
 use Rattle.clock.specs.Units.{micros}
 use Rattle.clock.specs.declared.state.Clock.{Clock}
 use Rattle.clock.specs.declared.units.Micros.{Micros}
 use Rattle.clock.proofs.Ok.{Ok, ok}
 use Rattle.request.specs.declared.request.Request.{Request}
-use Rattle.request.specs.Request.{selectsOffset, selectsFrequency, selectsMaxerror, selectsEsterror, selectsStatus, selectsConstant, modeAbove, offsetOutside, frequencyOutside, errorAbove, statusAbove, constantAbove, requestRefusal, frequencyWritten, statusWritten, constantWritten, clamp, frequencyGrown, writesBad, statusAfter, requested}
+use Rattle.request.specs.Request.{selectsOffset, selectsFrequency, selectsMaxerror, selectsEsterror, selectsStatus, selectsConstant, modeAbove, offsetOutside, frequencyOutside, errorAbove, statusAbove, constantAbove, requestRefusal, frequencyWritten, statusWritten, constantWritten, clamp, frequencyGrown, writesBad, requested}
 use Rattle.request.proofs.GainLaws.{clamp-parts}
 
 -- a chain of refusals that comes to 0 was not left at its first
@@ -80,10 +81,6 @@ cond-parts : (b : Bool) (x y : ℤ) (n : ℕ) → (b ≡ true → (posPart x ≤
 cond-parts true x y n h k = h refl
 cond-parts false x y n h k = k
 
-and-first : (a b : Bool) → a && b ≡ true → a ≡ true
-and-first true b e = refl
-and-first false b e = absurd (true≢false (sym e))
-
 module _ (c : Clock) (r : Request) (a : Accepted c r) where
   pub frequency-written : (posPart (frequencyWritten c r) ≤ 1677721600) × (negPart (frequencyWritten c r) ≤ 1677721600)
   frequency-written =
@@ -93,7 +90,7 @@ module _ (c : Clock) (r : Request) (a : Accepted c r) where
 
   -- a status that is written is a selected one
   pub status-selected : selectsStatus r && (eqb (c .status) statusOk || eqb (r .status) statusBad) ≡ true → r .status ≤ 4
-  status-selected t = a .status (and-first (selectsStatus r) (eqb (c .status) statusOk || eqb (r .status) statusBad) t)
+  status-selected t = a .status (and-true (selectsStatus r) (eqb (c .status) statusOk || eqb (r .status) statusBad) t .0)
 
   status-written : statusWritten c r ≤ 4
   status-written =
@@ -110,25 +107,19 @@ module _ (c : Clock) (r : Request) (a : Accepted c r) where
   pub requested-ok : Ok (requested c r)
   unfolding requested
   requested-ok =
-      record {
-        seconds = a .clock .seconds;
-        micros = a .clock .micros;
-        phase = a .clock .phase;
-        offset =
-            cond-parts (selectsOffset r) (r .offset .0 *ℤ pos 16384) (c .offset .0) 2097135616
+      search (
+        needs,
+        cond-parts (selectsOffset r) (r .offset .0 *ℤ pos 16384) (c .offset .0) 2097135616
             (λ t. simp parts (omega (arith, a .offset t)))
-            (a .clock .offset);
-        frequency =
-            cond-parts (selectsOffset r) (clamp (frequencyGrown c r)) (frequencyWritten c r) 1677721600
+            (a .clock .offset),
+        cond-parts (selectsOffset r) (clamp (frequencyGrown c r)) (frequencyWritten c r) 1677721600
             (λ t. clamp-parts (frequencyGrown c r))
-            frequency-written;
-        adjustment = a .clock .adjustment;
-        constant = constant-written;
-        updated = cond-most (selectsOffset r) 1 (c .updated) 1 (λ t. omega arith) (a .clock .updated);
-        reftime = cond-most (selectsOffset r) (c .seconds) (c .reftime) 4294967295 (λ t. a .clock .seconds) (a .clock .reftime);
-        update = update-after (selectsOffset r);
-        maxerror = cond-micros (selectsMaxerror r) (micros (r .maxerror .0)) (c .maxerror) 16000000 (a .maxerror) (a .clock .maxerror);
-        esterror = cond-micros (selectsEsterror r) (micros (r .esterror .0)) (c .esterror) 16000000 (a .esterror) (a .clock .esterror);
-        status =
-            cond-most (selectsOffset r && eqb (statusWritten c r) statusBad && not (writesBad r)) 0 (statusWritten c r) 4 (λ t. omega arith) status-written;
-      }
+            frequency-written,
+        constant-written,
+        cond-most (selectsOffset r) 1 (c .updated) 1 (λ t. omega arith) (a .clock .updated),
+        cond-most (selectsOffset r) (c .seconds) (c .reftime) 4294967295 (λ t. a .clock .seconds) (a .clock .reftime),
+        update-after (selectsOffset r),
+        cond-micros (selectsMaxerror r) (micros (r .maxerror .0)) (c .maxerror) 16000000 (a .maxerror) (a .clock .maxerror),
+        cond-micros (selectsEsterror r) (micros (r .esterror .0)) (c .esterror) 16000000 (a .esterror) (a .clock .esterror),
+        cond-most (selectsOffset r && eqb (statusWritten c r) statusBad && not (writesBad r)) 0 (statusWritten c r) 4 (λ t. omega arith) status-written,
+      )

@@ -1,12 +1,11 @@
 -- What a request answers, by its two cases.
 use mathlib.Core.Path.{_≡_, refl}
-use mathlib.Core.Bool.{Bool, true, false, cond}
+use mathlib.Core.Bool.{Bool, true, false}
 use Prim.Native.Nat.{ℕ, _<_}
 use native.Mathlib.Omega.{arith}
 use lib.Dec.{eqb}
 use borrow.Author.Tests.{eqb-true, eqb-false}
 use Rattle.clock.specs.declared.state.Clock.{Clock}
-use Rattle.clock.specs.declared.outcome.Outcome.{Outcome}
 use Rattle.request.specs.Request.{requestRefusal, requested, requestOf}
 use Rattle.request.specs.declared.request.Request.{Request}
 use Rattle.request.proofs.Accepted.{Accepted, accepted}

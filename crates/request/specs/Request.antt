@@ -5,7 +5,7 @@ use lib.Dec.{ltb, eqb}
 use lib.IntN.{ℤ, pos, negℤ, _+ℤ_, _*ℤ_}
 use lib.Signed.{quotZ, ltZ}
 use Rattle.clock.specs.Units.{micros, offsetUnits, frequencyUnits, offsetUnitsPerMicro}
-use Rattle.clock.specs.State.{inRange, within, strictlyWithin, greatestOffset, greatestFrequency, greatestConstant, greatestError, statusOk, statusBad}
+use Rattle.clock.specs.State.{inRange, within, strictlyWithin, greatestOffset, greatestFrequency, greatestConstant, greatestError, statusOk, statusBad, timeOf, whole}
 use Rattle.clock.specs.Refusal.{refuse, answer}
 use Rattle.clock.specs.declared.state.Clock.{Clock}
 use Rattle.clock.specs.declared.units.Micros.{Micros}
@@ -39,9 +39,13 @@ selectsStatus r = bitSet (r .mode) (modeBits .status)
 abbrev pub selectsConstant : Request → Bool
 selectsConstant r = bitSet (r .mode) (modeBits .constant)
 
+-- all six bits
+abbrev pub greatestMode : ℕ
+greatestMode = 63
+
 -- 4 "mode above 63"
 abbrev pub modeAbove : Request → Bool
-modeAbove r = ltb 63 (r .mode)
+modeAbove r = ltb greatestMode (r .mode)
 
 -- 5 "selected offset not within -127,999..127,999"
 abbrev pub offsetOutside : Request → Bool
@@ -105,10 +109,14 @@ constantWritten c r = cond (selectsConstant r) (r .constant) (c .constant)
 abbrev pub offsetAfter : Clock → Request → ℤ
 offsetAfter c r = cond (selectsOffset r) (r .offset .0 *ℤ pos offsetUnitsPerMicro) (c .offset .0)
 
+-- (s)
+abbrev pub longestInterval : ℕ
+longestInterval = 1024
+
 -- "Interval = seconds now minus the second of the earlier update; 0 if there is none or it is negative; at most 1,024." (s)
 -- The difference of two naturals is 0 where it would be negative.
 abbrev pub interval : Clock → ℕ
-interval c = cond (eqb (c .updated) 1) (min (c .seconds - c .reftime) 1024) 0
+interval c = cond (eqb (c .updated) 1) (min (c .seconds - c .reftime) longestInterval) 0
 
 -- 4^(time constant)
 abbrev pub gainDivisor : ℕ → ℕ
@@ -149,20 +157,15 @@ statusAfter c r = cond (selectsOffset r && eqb (statusWritten c r) statusBad && 
 -- All effects. "Nothing else moves before the next rollover. Mode 0 is accepted and changes nothing."
 unfoldable pub requested : Clock → Request → Clock
 requested c r =
-    record {
-      seconds = c .seconds;
-      micros = c .micros;
-      phase = c .phase;
-      offset = offsetUnits (offsetAfter c r);
-      frequency = frequencyUnits (frequencyAfter c r);
-      adjustment = c .adjustment;
-      constant = constantWritten c r;
-      updated = updatedAfter c r;
-      reftime = reftimeAfter c r;
-      maxerror = maxerrorWritten c r;
-      esterror = esterrorWritten c r;
+    whole
+    (record {
+      time = timeOf c;
+      correction = record { offset = offsetUnits (offsetAfter c r); adjustment = c .adjustment };
+      tuning = record { frequency = frequencyUnits (frequencyAfter c r); constant = constantWritten c r };
+      update = record { updated = updatedAfter c r; reftime = reftimeAfter c r };
+      errors = record { maxerror = maxerrorWritten c r; esterror = esterrorWritten c r };
       status = statusAfter c r;
-    }
+    })
 
 -- "All or nothing": every effect, or none with the refusal
 unfoldable pub requestOf : Clock → Request → Outcome

@@ -1,7 +1,8 @@
 ghost use mathlib.Core.Path.{_≡_};
-ghost use mathlib.Core.Bool.{Bool, true, cond};
-ghost use Prim.Native.Nat.{ℕ, _≤_};
+ghost use mathlib.Core.Bool.{true, cond};
+ghost use Prim.Native.Nat.{_≤_};
 ghost use Rattle.clock.specs.Units.{micros, offsetUnits, frequencyUnits};
+ghost use Rattle.clock.specs.State.{greatestError, statusBad};
 ghost use Rattle.request.specs.Request.{requestRefusal, frequencyWritten, constantWritten, statusWritten, offsetAfter, frequencyAfter, statusAfter, reftimeAfter, requested};
 use crate::gain::clamped_sum;
 use crate::gain::gain_of;
@@ -14,11 +15,17 @@ use crate::request::ADJ_OFFSET;
 use crate::request::ADJ_STATUS;
 use crate::request::ADJ_TIMECONST;
 use crate::request::Request;
-use clock::state::Clock;
-use clock::units::AskedMicros;
-use clock::units::Frequency;
-use clock::units::Micros;
-use clock::units::OffsetUnits;
+use clock::AskedMicros;
+use clock::Clock;
+use clock::Frequency;
+use clock::Micros;
+use clock::OFFSET_PER_MICRO;
+use clock::OffsetUnits;
+use clock::TIME_BAD;
+use clock::TIME_OK;
+
+// The status BAD as a request asks for it.
+const BAD: u64 = TIME_BAD as u64;
 
 fn frequency_written(c: Clock, r: Request) -> Frequency
     requires { ⌜ requestRefusal c r ≡ 0 ⌝ }
@@ -31,7 +38,7 @@ fn frequency_written(c: Clock, r: Request) -> Frequency
 }
 
 fn error_written(selected: bool, asked: AskedMicros, present: Micros) -> Micros
-    requires { ⌜ (selected ≡ true → asked .0 ≤ 16000000) ⌝ }
+    requires { ⌜ (selected ≡ true → asked .0 ≤ greatestError) ⌝ }
     ensures { λ q. ⌜ q ≡ cond selected (micros (asked .0)) present ⌝ }
 {
     if selected {
@@ -42,7 +49,7 @@ fn error_written(selected: bool, asked: AskedMicros, present: Micros) -> Micros
 
 // A status, a time constant or the flag of an earlier update: each is at most 4.
 fn number_written(written: bool, asked: u64, present: u8) -> u8
-    requires { ⌜ (written ≡ true → asked ≤ 4) ⌝ }
+    requires { ⌜ (written ≡ true → asked ≤ statusBad) ⌝ }
     ensures { λ q. ⌜ q ≡ cond written asked present ⌝ }
 {
     if written {
@@ -55,7 +62,7 @@ fn status_written(c: Clock, r: Request) -> u8
     requires { ⌜ requestRefusal c r ≡ 0 ⌝ }
     ensures { λ q. ⌜ q ≡ statusWritten c r ⌝ }
 {
-    let written = is_set(r.mode, ADJ_STATUS) & ((c.status == 0) | (r.status == 4));
+    let written = is_set(r.mode, ADJ_STATUS) & ((c.status == TIME_OK) | (r.status == BAD));
     number_written(written, r.status, c.status)
 }
 
@@ -71,7 +78,7 @@ fn offset_after(c: Clock, r: Request) -> OffsetUnits
     ensures { λ q. ⌜ q ≡ offsetUnits (offsetAfter c r) ⌝ }
 {
     if is_set(r.mode, ADJ_OFFSET) {
-        return OffsetUnits(r.offset.0 as i32 * 16384);
+        return OffsetUnits(r.offset.0 as i32 * OFFSET_PER_MICRO);
     }
     c.offset
 }
@@ -94,9 +101,9 @@ fn status_after(c: Clock, r: Request) -> u8
     ensures { λ q. ⌜ q ≡ statusAfter c r ⌝ }
 {
     let s = status_written(c, r);
-    let bad = is_set(r.mode, ADJ_STATUS) & (r.status == 4);
-    if is_set(r.mode, ADJ_OFFSET) & (s == 4) & !bad {
-        return 0;
+    let bad = is_set(r.mode, ADJ_STATUS) & (r.status == BAD);
+    if is_set(r.mode, ADJ_OFFSET) & (s == TIME_BAD) & !bad {
+        return TIME_OK;
     }
     s
 }

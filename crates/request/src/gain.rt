@@ -3,16 +3,19 @@ ghost use mathlib.Core.Bool.{true};
 ghost use Prim.Native.Nat.{_≤_};
 ghost use lib.IntN.{pos, _+ℤ_};
 ghost use Rattle.clock.specs.Units.{frequencyUnits};
-ghost use Rattle.clock.specs.State.{within, greatestFrequency, greatestOffset, inRange};
-ghost use Rattle.request.specs.Request.{interval, gainDivisor, gain, clamp};
+ghost use Rattle.clock.specs.State.{within, greatestFrequency, greatestOffset, greatestConstant};
+ghost use Rattle.request.specs.Request.{longestInterval, interval, gainDivisor, gain, clamp};
 ghost use Rattle.request.specs.Inner.{greatestGain};
 use crate::units::AskedOffset;
-use clock::state::Clock;
-use clock::state::MAX_FREQUENCY;
-use clock::state::MIN_FREQUENCY;
-use clock::units::Frequency;
+use clock::Clock;
+use clock::Frequency;
+use clock::MAX_FREQUENCY;
+use clock::MIN_FREQUENCY;
 
-// Seconds since the earlier update, at most 1,024.
+// (s)
+const MAX_INTERVAL: u32 = 1024;
+
+// Seconds since the earlier update, up to the longest interval that counts.
 pub(crate) fn interval_of(c: Clock) -> u32
     ensures { λ r. ⌜ r ≡ interval c ⌝ }
 {
@@ -21,16 +24,16 @@ pub(crate) fn interval_of(c: Clock) -> u32
             return 0;
         }
         let d = c.seconds - c.reftime;
-        if d <= 1024 {
+        if d <= MAX_INTERVAL {
             return d;
         }
-        return 1024;
+        return MAX_INTERVAL;
     }
     0
 }
 
 fn gain_divisor(constant: u8) -> i32
-    requires { ⌜ constant ≤ 4 ⌝ }
+    requires { ⌜ constant ≤ greatestConstant ⌝ }
     ensures { λ r. ⌜ r ≡ pos (gainDivisor constant) ⌝ }
 {
     match constant {
@@ -45,8 +48,8 @@ fn gain_divisor(constant: u8) -> i32
 // What an offset adds to the frequency: RFC 1589 divides by the time constant's power.
 pub(crate) fn gain_of(o: AskedOffset, n: u32, constant: u8) -> Frequency
     requires { ⌜ within greatestOffset (o .0) ≡ true ⌝ }
-    requires { ⌜ n ≤ 1024 ⌝ }
-    requires { ⌜ constant ≤ 4 ⌝ }
+    requires { ⌜ n ≤ longestInterval ⌝ }
+    requires { ⌜ constant ≤ greatestConstant ⌝ }
     ensures { λ r. ⌜ r ≡ frequencyUnits (gain (o .0) n constant) ⌝ }
 {
     let d = gain_divisor(constant);

@@ -1,6 +1,14 @@
 ghost use mathlib.Core.Path.{_≡_};
 ghost use Prim.Native.Nat.{_<_};
 ghost use Rattle.request.specs.Request.{bitSet, offsetOutside, frequencyOutside, maxerrorAbove, esterrorAbove, statusAbove, constantAbove, requestRefusal};
+use crate::limits::FREQUENCY_LOWER_END;
+use crate::limits::FREQUENCY_UPPER_END;
+use crate::limits::MAX_CONSTANT;
+use crate::limits::MAX_ERROR;
+use crate::limits::MAX_MODE;
+use crate::limits::MAX_OFFSET;
+use crate::limits::MAX_STATUS;
+use crate::limits::MIN_OFFSET;
 use crate::request::ADJ_ESTERROR;
 use crate::request::ADJ_FREQUENCY;
 use crate::request::ADJ_MAXERROR;
@@ -8,9 +16,8 @@ use crate::request::ADJ_OFFSET;
 use crate::request::ADJ_STATUS;
 use crate::request::ADJ_TIMECONST;
 use crate::request::Request;
-use clock::state::Clock;
-use clock::state::MAX_ERROR;
-use clock::state::in_range;
+use clock::Clock;
+use clock::in_range;
 
 pub(crate) fn is_set(mode: u64, bit: u64) -> bool
     requires { ⌜ 0 < bit ⌝ }
@@ -22,37 +29,38 @@ pub(crate) fn is_set(mode: u64, bit: u64) -> bool
 fn offset_outside(r: Request) -> bool
     ensures { λ b. ⌜ b ≡ offsetOutside r ⌝ }
 {
-    is_set(r.mode, ADJ_OFFSET) & !((-127999 <= r.offset.0) & (r.offset.0 <= 127999))
+    is_set(r.mode, ADJ_OFFSET) & !((MIN_OFFSET <= r.offset.0) & (r.offset.0 <= MAX_OFFSET))
 }
 
 fn frequency_outside(r: Request) -> bool
     ensures { λ b. ⌜ b ≡ frequencyOutside r ⌝ }
 {
-    is_set(r.mode, ADJ_FREQUENCY) & !((-1677721600 < r.frequency.0) & (r.frequency.0 < 1677721600))
+    is_set(r.mode, ADJ_FREQUENCY)
+        & !((FREQUENCY_LOWER_END < r.frequency.0) & (r.frequency.0 < FREQUENCY_UPPER_END))
 }
 
 fn maxerror_above(r: Request) -> bool
     ensures { λ b. ⌜ b ≡ maxerrorAbove r ⌝ }
 {
-    is_set(r.mode, ADJ_MAXERROR) & ((MAX_ERROR as u64) < r.maxerror.0)
+    is_set(r.mode, ADJ_MAXERROR) & (MAX_ERROR < r.maxerror.0)
 }
 
 fn esterror_above(r: Request) -> bool
     ensures { λ b. ⌜ b ≡ esterrorAbove r ⌝ }
 {
-    is_set(r.mode, ADJ_ESTERROR) & ((MAX_ERROR as u64) < r.esterror.0)
+    is_set(r.mode, ADJ_ESTERROR) & (MAX_ERROR < r.esterror.0)
 }
 
 fn status_above(r: Request) -> bool
     ensures { λ b. ⌜ b ≡ statusAbove r ⌝ }
 {
-    is_set(r.mode, ADJ_STATUS) & (4 < r.status)
+    is_set(r.mode, ADJ_STATUS) & (MAX_STATUS < r.status)
 }
 
 fn constant_above(r: Request) -> bool
     ensures { λ b. ⌜ b ≡ constantAbove r ⌝ }
 {
-    is_set(r.mode, ADJ_TIMECONST) & (4 < r.constant)
+    is_set(r.mode, ADJ_TIMECONST) & (MAX_CONSTANT < r.constant)
 }
 
 // The lowest refusal that applies, or 0.
@@ -62,7 +70,7 @@ pub(crate) fn refusal_of(c: Clock, r: Request) -> u8
     if !in_range(c) {
         return 1;
     }
-    if 63 < r.mode {
+    if MAX_MODE < r.mode {
         return 4;
     }
     if offset_outside(r) {

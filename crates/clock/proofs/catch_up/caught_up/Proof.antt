@@ -1,6 +1,6 @@
--- A tick taken off those that were left, by whether it was accepted.
+-- `clock::catch_up::caught_up`: a tick taken off those that were left, by whether it was accepted.
 use borrow.Author.Needs.{needs}
-use borrow.Author.Tests.{eq-eqb, ne-eqb}
+use borrow.Author.Tests.{ne-eqb}
 use Rattle.clock.proofs.catch_up.caught_up.Statement.{statement}
 use Rattle.clock.proofs.catch_up.caught_up.Tie as tie
 

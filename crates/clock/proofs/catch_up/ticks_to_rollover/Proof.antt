@@ -1,12 +1,12 @@
--- Ticks up to a rollover. The loop's invariant: the clock is in range, and what the ticks still left make of it, all of them make of the
+-- `clock::catch_up::ticks_to_rollover`: ticks up to a rollover. The loop's invariant: the clock is in range, and what the ticks still left make of it, all of them make of the
 -- clock as it was. The measure is the ticks left.
 use borrow.Author.Needs.{needs}
 use borrow.Author.Tests.{not-true, not-false, le-leb, lt-leb}
-use mathlib.Core.Bool.{true, false}
+use mathlib.Core.Bool.{true}
 use mathlib.Core.Path.{_≡_, refl, sym, _∙_, ap}
 use Rattle.clock.specs.State.{inRange}
-use Rattle.clock.specs.Tick.{moved, rollsOver}
-use Rattle.clock.specs.CatchUp.{caughtUp, ticksToRollover}
+use Rattle.clock.specs.Tick.{moved}
+use Rattle.clock.specs.Inner.{caughtUp, ticksToRollover}
 use Rattle.clock.specs.declared.state.Clock.{Clock}
 use Rattle.clock.specs.declared.outcome.Outcome.{Outcome}
 use Rattle.clock.proofs.CatchUpLaws.{none-out, none-left, stays-in-range, one-stays, one-rolls}

@@ -1,4 +1,4 @@
--- A reading, by whether the clock is in range.
+-- `clock::read`: a reading, by whether the clock is in range.
 use borrow.Author.Needs.{needs}
 use borrow.Author.Tests.{not-true, not-false}
 use mathlib.Core.Path.{sym, _∙_}

@@ -1,4 +1,4 @@
--- The adjustment's steps fit 32 bits, so that it is what `adjustmentFor` says.
+-- `clock::rollover::adjustment_for`: the adjustment's steps fit 32 bits, so that it is what `adjustmentFor` says.
 use lib.Dec.{lit<}
 use mir.Facts.{toZ-ofZ}
 use Rattle.integers.proofs.Ranges.{within-parts}

@@ -1,4 +1,4 @@
--- The leap step, by the status and the second of the day.
+-- `clock::rollover::leap_step`: the leap step, by the status and the second of the day.
 use borrow.Author.Needs.{needs}
 use borrow.Author.Tests.{eq-eqb, ne-eqb}
 use Rattle.clock.proofs.rollover.leap_step.Statement.{statement}

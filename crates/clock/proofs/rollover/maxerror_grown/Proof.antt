@@ -1,4 +1,4 @@
--- The maximum error grows by 100 us and stops at its limit.
+-- `clock::rollover::maxerror_grown`: the maximum error grows by 100 us and stops at its limit.
 use borrow.Author.Needs.{needs}
 use mathlib.Core.Path.{ap}
 use native.Mathlib.Omega.{arith}

@@ -1,4 +1,4 @@
--- A rollover does what `rolledOver` says, field by field.
+-- `clock::rollover::rollover`: a rollover does what `rolledOver` says, field by field.
 use borrow.Author.Needs.{needs}
 use mir.Facts.{toZ-ofZ}
 use Rattle.integers.proofs.Ranges.{parts-within}

@@ -1,4 +1,4 @@
--- The five powers of two.
+-- `clock::rollover::share_divisor`: the five powers of two.
 use mathlib.Core.Path.{_≡_}
 use native.Mathlib.Omega.{arith}
 use Rattle.clock.proofs.rollover.share_divisor.Statement.{statement}

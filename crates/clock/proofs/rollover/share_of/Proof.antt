@@ -1,4 +1,4 @@
--- The share: the quotient fits 32 bits, and its divisor is not 0.
+-- `clock::rollover::share_of`: the share: the quotient fits 32 bits, and its divisor is not 0.
 use mir.Facts.{toZ-ofZ}
 use Rattle.clock.proofs.Ok.{ok}
 use Rattle.clock.proofs.RollLaws.{fits-offset, fits-share-of, fits-divisor, divisor-pos}

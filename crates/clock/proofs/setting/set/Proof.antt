@@ -1,4 +1,4 @@
--- A setting, by whether the clock is in range and the time can be set.
+-- `clock::set`: a setting, by whether the clock is in range and the time can be set.
 use borrow.Author.Needs.{needs}
 use borrow.Author.Tests.{not-true, not-false, leb-true}
 use mathlib.Core.Bool.{true, false}

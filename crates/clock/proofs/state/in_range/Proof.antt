@@ -1,29 +1,40 @@
--- The tests are those of the table, read as signed numbers where the fields are.
+-- `clock::in_range`: the tests are those of the table, read as signed numbers where the fields are.
 use borrow.Author.Needs.{needs}
+use mathlib.Core.Path.{_≡_}
 use mir.Facts.{toZ-ofZ}
 use mir.Syntax.{w32}
-use mir.Val.{SFits}
+use mir.Val.{SFits, toZ, ofZ}
 use Rattle.clock.specs.State.{inRange}
 use Rattle.clock.proofs.state.in_range.Statement.{statement}
 use Rattle.clock.proofs.state.in_range.Tie as tie
 
-fits-phase : (s : tie.Start) → SFits w32 (s .args .c .phase .0)
-fits-phase s = search needs
+phase-fits : (s : tie.Start) → SFits w32 (s .args .c .phase .0)
+phase-fits s = search needs
 
-fits-offset : (s : tie.Start) → SFits w32 (s .args .c .offset .0)
-fits-offset s = search needs
+phase-is : (s : tie.Start) → toZ w32 (ofZ w32 (s .args .c .phase .0)) ≡ s .args .c .phase .0
+phase-is s = toZ-ofZ (phase-fits s)
 
-fits-frequency : (s : tie.Start) → SFits w32 (s .args .c .frequency .0)
-fits-frequency s = search needs
+offset-fits : (s : tie.Start) → SFits w32 (s .args .c .offset .0)
+offset-fits s = search needs
 
-fits-adjustment : (s : tie.Start) → SFits w32 (s .args .c .adjustment .0)
-fits-adjustment s = search needs
+offset-is : (s : tie.Start) → toZ w32 (ofZ w32 (s .args .c .offset .0)) ≡ s .args .c .offset .0
+offset-is s = toZ-ofZ (offset-fits s)
+
+frequency-fits : (s : tie.Start) → SFits w32 (s .args .c .frequency .0)
+frequency-fits s = search needs
+
+frequency-is : (s : tie.Start) → toZ w32 (ofZ w32 (s .args .c .frequency .0)) ≡ s .args .c .frequency .0
+frequency-is s = toZ-ofZ (frequency-fits s)
+
+adjustment-fits : (s : tie.Start) → SFits w32 (s .args .c .adjustment .0)
+adjustment-fits s = search needs
+
+adjustment-is : (s : tie.Start) → toZ w32 (ofZ w32 (s .args .c .adjustment .0)) ≡ s .args .c .adjustment .0
+adjustment-is s = toZ-ofZ (adjustment-fits s)
 
 returns : tie.Need-returns
 unfolding inRange
-returns c =
-    let s = c .before .before .before .before .before .before .before .before .before .before .before .before .before .before .before .before .before .before .before .before .before .before .before .before .before .before .before .before .before .before in
-    simp (toZ-ofZ (fits-phase s), toZ-ofZ (fits-offset s), toZ-ofZ (fits-frequency s), toZ-ofZ (fits-adjustment s))
+returns c = simp (phase-is, offset-is, frequency-is, adjustment-is)
 
 pub in-range-spec : {M : Type 1} → statement M
 in-range-spec = tie.close (tie.spec returns)

@@ -1,4 +1,4 @@
--- Each event is the call for it.
+-- `event::step`: each event is the call for it.
 use borrow.Author.Needs.{needs}
 use Rattle.event.proofs.event.step.Statement.{statement}
 use Rattle.event.proofs.event.step.Tie as tie

@@ -1,4 +1,4 @@
--- The time constant, where it is selected.
+-- `request::effects::constant_written`: the time constant, where it is selected.
 use borrow.Author.Needs.{needs}
 use mathlib.Core.Path.{sym, _∙_}
 use Rattle.request.proofs.Accepted.{accepted}

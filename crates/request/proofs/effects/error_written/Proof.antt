@@ -1,4 +1,4 @@
--- An error that is written is at most 16,000,000.
+-- `request::effects::error_written`: an error that is written is at most 16,000,000.
 use borrow.Author.Needs.{needs}
 use native.Mathlib.Omega.{arith}
 use Rattle.request.proofs.effects.error_written.Statement.{statement}

@@ -1,4 +1,4 @@
--- A selected frequency fits 32 bits, since it was not refused.
+-- `request::effects::frequency_written`: a selected frequency fits 32 bits, since it was not refused.
 use borrow.Author.Needs.{needs}
 use mathlib.Core.Bool.{true}
 use mathlib.Core.Path.{_≡_, sym, _∙_}

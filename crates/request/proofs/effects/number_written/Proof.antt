@@ -1,4 +1,4 @@
--- A number that is written is at most 4.
+-- `request::effects::number_written`: a number that is written is at most 4.
 use borrow.Author.Needs.{needs}
 use native.Mathlib.Omega.{arith}
 use Rattle.request.proofs.effects.number_written.Statement.{statement}

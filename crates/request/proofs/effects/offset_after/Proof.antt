@@ -1,4 +1,4 @@
--- A selected offset fits 32 bits, and so does its product.
+-- `request::effects::offset_after`: a selected offset fits 32 bits, and so does its product.
 use borrow.Author.Needs.{needs}
 use mathlib.Core.Bool.{true}
 use mathlib.Core.Path.{_≡_, sym, _∙_}

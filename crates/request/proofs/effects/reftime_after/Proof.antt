@@ -1,4 +1,4 @@
--- The present second where an offset is selected, else the one before.
+-- `request::effects::reftime_after`: the present second where an offset is selected, else the one before.
 use borrow.Author.Needs.{needs}
 use mathlib.Core.Path.{sym, _∙_}
 use Rattle.request.proofs.effects.reftime_after.Statement.{statement}

@@ -1,4 +1,4 @@
--- The clock with every effect, field by field.
+-- `request::effects::requested_of`: the clock with every effect, field by field.
 use borrow.Author.Needs.{needs}
 use mathlib.Core.Path.{sym, _∙_}
 use Rattle.request.specs.Request.{requested}

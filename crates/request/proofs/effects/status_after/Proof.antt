@@ -1,7 +1,7 @@
--- BAD turns to OK with an offset, unless BAD is written.
+-- `request::effects::status_after`: BAD turns to OK with an offset, unless BAD is written.
 use borrow.Author.Needs.{needs}
 use lib.Dec.{eqb}
-use mathlib.Core.Bool.{Bool, true, false, _&&_, not}
+use mathlib.Core.Bool.{true, false, _&&_, not}
 use mathlib.Core.Path.{_≡_}
 use Rattle.request.specs.Request.{selectsOffset, statusWritten, writesBad}
 use Rattle.request.proofs.effects.status_after.Statement.{statement}

@@ -1,9 +1,5 @@
--- The status, where it is selected and may be written.
+-- `request::effects::status_written`: the status, where it is selected and may be written.
 use borrow.Author.Needs.{needs}
-use mathlib.Core.Path.{_≡_}
-use mathlib.Core.Bool.{true, _&&_, _||_}
-use lib.Dec.{eqb}
-use Rattle.request.specs.Request.{selectsStatus}
 use Rattle.request.proofs.Accepted.{accepted, status-selected}
 use Rattle.request.proofs.effects.status_written.Statement.{statement}
 use Rattle.request.proofs.effects.status_written.Tie as tie

@@ -1,4 +1,4 @@
--- The sum fits 32 bits, and is clamped as the rule says.
+-- `request::gain::clamped_sum`: the sum fits 32 bits, and is clamped as the rule says.
 use mir.Facts.{toZ-ofZ}
 use Rattle.integers.proofs.Ranges.{within-parts}
 use Rattle.request.proofs.GainLaws.{Sums, sums}

@@ -1,4 +1,4 @@
--- The five powers of four.
+-- `request::gain::gain_divisor`: the five powers of four.
 use mathlib.Core.Path.{_≡_}
 use native.Mathlib.Omega.{arith}
 use Rattle.request.proofs.gain.gain_divisor.Statement.{statement}

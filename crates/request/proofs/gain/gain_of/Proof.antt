@@ -1,4 +1,4 @@
--- The steps of the gain fit 32 bits.
+-- `request::gain::gain_of`: the steps of the gain fit 32 bits.
 use borrow.Author.Needs.{needs}
 use mir.Facts.{toZ-ofZ, toZ-pos}
 use mir.Syntax.{w32, w64}

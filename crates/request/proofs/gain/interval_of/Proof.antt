@@ -1,4 +1,4 @@
--- The interval, by whether there is an earlier update and how far back it lies.
+-- `request::gain::interval_of`: the interval, by whether there is an earlier update and how far back it lies.
 use borrow.Author.Needs.{needs}
 use borrow.Author.Tests.{eq-eqb, ne-eqb}
 use native.Mathlib.Omega.{arith}

@@ -1,4 +1,4 @@
--- The test of the rule.
+-- `request::refusal::constant_above`: the test of the rule.
 use borrow.Author.Needs.{needs}
 use Rattle.request.proofs.refusal.constant_above.Statement.{statement}
 use Rattle.request.proofs.refusal.constant_above.Tie as tie

@@ -1,4 +1,4 @@
--- The test of the rule, on a number that fits 64 bits.
+-- `request::refusal::frequency_outside`: the test of the rule, on a number that fits 64 bits.
 use borrow.Author.Needs.{needs}
 use mir.Facts.{toZ-ofZ}
 use mir.Syntax.{w64}

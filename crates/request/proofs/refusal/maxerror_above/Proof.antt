@@ -1,4 +1,4 @@
--- The test of the rule.
+-- `request::refusal::maxerror_above`: the test of the rule.
 use borrow.Author.Needs.{needs}
 use Rattle.request.proofs.refusal.maxerror_above.Statement.{statement}
 use Rattle.request.proofs.refusal.maxerror_above.Tie as tie
@@ -6,11 +6,8 @@ use Rattle.request.proofs.refusal.maxerror_above.Tie as tie
 is-set-requires : tie.Need-is-set-requires
 is-set-requires c κs = search needs
 
-cast-result : tie.Need-cast-result
-cast-result c = search needs
-
 returns : tie.Need-returns
 returns c = simp (c .before .is-set .ensures)
 
 pub maxerror-above-spec : {M : Type 1} → statement M
-maxerror-above-spec = tie.close (tie.spec is-set-requires cast-result returns)
+maxerror-above-spec = tie.close (tie.spec is-set-requires returns)

@@ -1,4 +1,4 @@
--- The first refusal that applies, by the tests that have not.
+-- `request::refusal::refusal_of`: the first refusal that applies, by the tests that have not.
 use borrow.Author.Needs.{needs}
 use borrow.Author.Tests.{not-true, not-false, lt-ltb, le-ltb}
 use mathlib.Core.Bool.{true, false}

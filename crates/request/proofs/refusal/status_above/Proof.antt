@@ -1,4 +1,4 @@
--- The test of the rule.
+-- `request::refusal::status_above`: the test of the rule.
 use borrow.Author.Needs.{needs}
 use Rattle.request.proofs.refusal.status_above.Statement.{statement}
 use Rattle.request.proofs.refusal.status_above.Tie as tie

@@ -1,4 +1,4 @@
--- A request, by whether it is refused.
+-- `request::adjust`: a request, by whether it is refused.
 use borrow.Author.Needs.{needs}
 use borrow.Author.Tests.{ne-eqb}
 use lib.Dec.{eqb}

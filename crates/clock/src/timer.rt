@@ -3,14 +3,15 @@ ghost use mathlib.Core.Bool.{true};
 ghost use Rattle.clock.specs.State.{inRange};
 ghost use Rattle.clock.specs.Tick.{rollsOver, tickOf};
 ghost use Rattle.clock.specs.Inner.{advanceOf};
-use crate::device::RECORDER;
+use crate::device::RECORDER_256;
+use crate::limits::LAST_SECOND;
+use crate::limits::MICROS_PER_SECOND;
+use crate::limits::PHASE_PER_MICRO;
 use crate::outcome::Outcome;
 use crate::rollover::rollover;
 use crate::state::Clock;
-use crate::state::LAST_SECOND;
 use crate::state::in_range;
 use crate::units::Micros;
-use crate::units::PHASE_PER_MICRO;
 use crate::units::PhaseUnits;
 
 // The microseconds and the phase that a tick leads to, before a rollover takes a second off.
@@ -26,7 +27,7 @@ pub(crate) fn advance_of(c: Clock) -> Advance
     let sum = c.phase.0 + c.adjustment.0;
     let carry = sum / PHASE_PER_MICRO;
     Advance {
-        micros: Micros(((c.micros.0 + RECORDER.tick.0) as i32 + carry) as u32),
+        micros: Micros(((c.micros.0 + RECORDER_256.tick.0) as i32 + carry) as u32),
         phase: PhaseUnits(sum - carry * PHASE_PER_MICRO),
     }
 }
@@ -44,7 +45,7 @@ pub(crate) fn overflow(c: Clock, a: Advance) -> Outcome
             clock: c,
         };
     }
-    let rest = Micros(a.micros.0 - 1000000);
+    let rest = Micros(a.micros.0 - MICROS_PER_SECOND);
     let phase = a.phase;
     let rolled = rollover(Clock {
         micros: rest,
@@ -70,7 +71,7 @@ pub fn tick(c: Clock) -> Outcome
     let a = advance_of(c);
     let us = a.micros;
     let phase = a.phase;
-    if us.0 < 1000000 {
+    if us.0 < MICROS_PER_SECOND {
         let advanced = Clock {
             micros: us,
             phase: phase,

@@ -1,10 +1,10 @@
 // Many ticks in one call.
 ghost use mathlib.Core.Path.{_≡_};
-ghost use Rattle.ticks.specs.Ticks.{ticksOf};
-use clock::catch_up::ticks_to_rollover;
-use clock::outcome::Outcome;
-use clock::state::Clock;
-use clock::state::in_range;
+ghost use Rattle.clock.specs.Ticks.{ticksOf};
+use crate::catch_up::ticks_to_rollover;
+use crate::outcome::Outcome;
+use crate::state::Clock;
+use crate::state::in_range;
 
 // Up to n single ticks. The answer of the first that is refused, with the clock that the accepted ones led to; or refusal 0. A clock out
 // of range is refused even where n is 0.

@@ -5,20 +5,20 @@ use Prim.Native.Nat.{ℕ, zero, suc, _-_, _≤_, _<_}
 use native.Mathlib.Omega.{arith}
 use lib.Dec.{eqb}
 use borrow.Author.Tests.{eq-eqb, ne-eqb}
 use Rattle.clock.specs.State.{inRange}
 use Rattle.clock.specs.Refusal.{refuse}
 use Rattle.clock.specs.Rollover.{rolledOver}
 use Rattle.clock.specs.Tick.{advanced, microsGrown, tickOf, tickRefusal}
-use Rattle.clock.specs.CatchUp.{ticksToRollover}
+use Rattle.clock.specs.Inner.{ticksToRollover}
 use Rattle.clock.specs.declared.state.Clock.{Clock}
 use Rattle.clock.specs.declared.outcome.Outcome.{Outcome}
 use Rattle.clock.specs.declared.catch_up.CaughtUp.{CaughtUp}
 use Rattle.clock.proofs.Ok.{ok-back}
 use Rattle.clock.proofs.TickCases.{TickCase, out, last, plain, rolls, tickCase}
 use Rattle.clock.proofs.TickLaws.{advanced-ok, grown-most}
 use Rattle.clock.proofs.RollLaws.{rolled-ok}
 use Rattle.clock.proofs.CatchUpLaws.{none-out, stays-in-range}
-use Rattle.ticks.specs.Ticks.{ticksOf}
+use Rattle.clock.specs.Ticks.{ticksOf}
 
 pub ticks-none : (n : ℕ) (c : Clock) → n ≤ 0 → inRange c ≡ true → ticksOf n c ≡ record { refusal = 0; clock = c }
 unfolding ticksOf

@@ -1,12 +1,12 @@
--- A tick that reaches the end of its second, by whether that is the last one.
+-- `clock::timer::overflow`: a tick that reaches the end of its second, by whether that is the last one.
 use borrow.Author.Tests.{leb-true, eq-eqb, ne-eqb}
-use Prim.Native.Nat.{_-_, _≤_}
+use Prim.Native.Nat.{_-_}
 use native.Mathlib.Omega.{arith}
 use Rattle.clock.specs.Tick.{tickOf, tickRefusal, ticked, advanced, microsGrown}
-use Rattle.clock.proofs.Ok.{Ok, ok, ok-back}
+use Rattle.clock.proofs.Ok.{ok, ok-back}
 use Rattle.clock.proofs.TickLaws.{advanced-ok, grown-most}
-use Rattle.clock.proofs.tick.overflow.Statement.{statement}
-use Rattle.clock.proofs.tick.overflow.Tie as tie
+use Rattle.clock.proofs.timer.overflow.Statement.{statement}
+use Rattle.clock.proofs.timer.overflow.Tie as tie
 
 returns : tie.Need-returns
 unfolding tickOf tickRefusal

@@ -1,12 +1,12 @@
--- The steps of a tick fit 32 bits, so that microseconds and phase are what the rules say.
+-- `clock::timer::advance_of`: the steps of a tick fit 32 bits, so that microseconds and phase are what the rules say.
 use lib.Dec.{lit<}
 use mir.Facts.{toZ-ofZ, toZ-pos}
 use mir.Syntax.{w32}
 use native.Mathlib.Omega.{arith}
 use Rattle.clock.proofs.Ok.{Ok, ok}
 use Rattle.clock.proofs.TickLaws.{fits-phase, fits-adjustment, fits-sum, fits-carry, fits-whole, fits-left, fits-micros, fits-after, after-nonNeg, fits-grown}
-use Rattle.clock.proofs.tick.advance_of.Statement.{statement}
-use Rattle.clock.proofs.tick.advance_of.Tie as tie
+use Rattle.clock.proofs.timer.advance_of.Statement.{statement}
+use Rattle.clock.proofs.timer.advance_of.Tie as tie
 
 known : (s : tie.Start) → Ok (s .args .c)
 known s = ok (s .args .c) (s .pre)

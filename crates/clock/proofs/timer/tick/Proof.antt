@@ -1,12 +1,12 @@
--- A tick, by whether the clock is in range and whether the second rolls over.
+-- `clock::tick`: a tick, by whether the clock is in range and whether the second rolls over.
 use borrow.Author.Needs.{needs}
 use borrow.Author.Tests.{not-true, not-false, le-leb, lt-leb}
 use mathlib.Core.Bool.{true, false}
 use mathlib.Core.Path.{_≡_, sym, _∙_}
 use Rattle.clock.specs.State.{inRange}
 use Rattle.clock.specs.Tick.{tickOf, tickRefusal, ticked, rollsOver}
-use Rattle.clock.proofs.tick.tick.Statement.{statement}
-use Rattle.clock.proofs.tick.tick.Tie as tie
+use Rattle.clock.proofs.timer.tick.Statement.{statement}
+use Rattle.clock.proofs.timer.tick.Tie as tie
 
 inside : (c : tie.Else1) → inRange (c .before .before .args .c) ≡ true
 inside c = sym (c .before .in-range .ensures) ∙ not-false _ (c .if1 .left)

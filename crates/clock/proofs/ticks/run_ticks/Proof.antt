@@ -1,14 +1,14 @@
--- `ticks::run_ticks` meets its contract. The loop's invariant: the clock is in range, and what the ticks still to be run make of it, all of
+-- `clock::run_ticks` meets its contract. The loop's invariant: the clock is in range, and what the ticks still to be run make of it, all of
 -- them make of the clock as it was. The measure is the ticks left.
 use mathlib.Core.Path.{_≡_, refl, sym, _∙_}
 use mathlib.Core.Bool.{true}
 use borrow.Author.Needs.{needs}
 use borrow.Author.Tests.{not-true, not-false}
 use Rattle.clock.specs.State.{inRange}
-use Rattle.ticks.specs.Ticks.{ticksOf}
-use Rattle.ticks.proofs.ManyTicks.{ticks-none, ticks-out, ticks-refused, ticks-more, ticks-fewer, ticks-in-range}
-use Rattle.ticks.proofs.run_ticks.Statement.{statement}
-use Rattle.ticks.proofs.run_ticks.Tie as tie
+use Rattle.clock.specs.Ticks.{ticksOf}
+use Rattle.clock.proofs.ManyTicks.{ticks-none, ticks-out, ticks-refused, ticks-more, ticks-fewer, ticks-in-range}
+use Rattle.clock.proofs.ticks.run_ticks.Statement.{statement}
+use Rattle.clock.proofs.ticks.run_ticks.Tie as tie
 
 abbrev Inv-loop : tie.InvT-loop
 Inv-loop n d₀ left₀ d left = (inRange d ≡ true) × (ticksOf n d₀ ≡ ticksOf left d)

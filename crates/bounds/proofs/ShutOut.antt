@@ -1,0 +1,34 @@
+-- The clocks that document 01 shuts out by name do not meet demand 3: each fails a bound, computed.
+use mathlib.Core.Path.{_≡_, refl}
+use mathlib.Core.Bool.{false}
+use mathlib.Core.List.{[], _∷_}
+use Prim.Native.Nat.{ℕ, _≤_, _<_}
+use native.Mathlib.Omega.{arith}
+use lib.Dec.{leb, ltb}
+use borrow.Author.Tests.{leb-false, ltb-false}
+use Rattle.clock.specs.State.{inRange}
+use Rattle.clock.specs.Reading.{readingOf, readingRefusal}
+use Rattle.clock.specs.Rollover.{rolledOver}
+use Rattle.clock.specs.Tick.{ticked, tickRefusal, tickOf}
+use Rattle.clock.specs.Setting.{settingRefusal, settingOf}
+use Rattle.request.specs.Request.{requestRefusal, requested, requestOf}
+use Rattle.event.specs.declared.event.Event.the-variants.{Tick}
+use Rattle.bounds.specs.Calls.{afterBy, ticksAmong, neitherSetNorInserted}
+use Rattle.bounds.specs.Book.{bookFrom}
+use Rattle.bounds.specs.WrongClocks.{ShutOut}
+
+not-below : {a b : ℕ} → ltb a b ≡ false → a < b → ⊥
+not-below {a} {b} e h = omega (arith, ltb-false a b e)
+
+not-most : {a b : ℕ} → leb a b ≡ false → a ≤ b → ⊥
+not-most {a} {b} e h = omega (arith, leb-false a b e)
+
+pub shut-out : ShutOut
+unfolding inRange readingOf readingRefusal rolledOver ticked tickRefusal tickOf settingRefusal settingOf requestRefusal requested requestOf afterBy ticksAmong neitherSetNorInserted bookFrom
+shut-out =
+    record {
+      refusing = λ d. omega (arith, d .first .accepted);
+      zeros = λ d. not-below refl (d .first .near);
+      idle = λ d. not-most refl (d .third [] (Tick ∷ []) [] refl refl);
+      pretending = λ d. not-below refl (d .first .near);
+    }

@@ -1,0 +1,76 @@
+-- Clocks that document 01 shuts out by name: "a clock that refuses everything, and a reading that is always zero [..]; a tick that does
+-- nothing [..]; a rollover that pays the first share and later only pretends". For each, a list of calls at which demand 3 would fail.
+use Prim.Native.Nat.{ℕ, zero, suc}
+use mathlib.Core.Bool.{Bool, not, _&&_, cond}
+use mathlib.Core.List.{List, [], _∷_}
+use lib.IntN.{pos}
+use Rattle.clock.specs.State.{freshClock, timeOf, tuningOf, updateOf, errorsOf, whole}
+use Rattle.clock.specs.Reading.{noReading}
+use Rattle.clock.specs.Tick.{rollsOver}
+use Rattle.clock.specs.declared.state.Clock.{Clock}
+use Rattle.event.specs.Event.{stepOf}
+use Rattle.event.specs.declared.event.Event.{Event}
+use Rattle.event.specs.declared.event.Event.the-variants.{Tick, Setting, Request, Reading}
+use Rattle.bounds.specs.Calls.{Answers}
+use Rattle.bounds.specs.Cases.{asks, set, equal}
+use Rattle.bounds.specs.Demand.{Demand3}
+
+-- every call is refused, with 1
+abbrev pub refusesEverything : Answers
+refusesEverything c e = record { refusal = 1; clock = c; reading = noReading }
+
+-- the reading is always zero, and accepted
+abbrev pub readsZero : Answers
+readsZero c e = record { refusal = stepOf c e .refusal; clock = stepOf c e .clock; reading = noReading }
+
+-- an accepted tick does nothing
+abbrev pub idles : Answers
+idles c Tick = record { refusal = stepOf c Tick .refusal; clock = c; reading = noReading }
+idles c (Setting s u) = stepOf c (Setting s u)
+idles c (Request r) = stepOf c (Request r)
+idles c Reading = stepOf c Reading
+
+-- the adjustment holds a share already
+abbrev pub paysShare : Clock → Bool
+paysShare c = not (equal (c .adjustment .0) (freshClock .adjustment .0))
+
+-- no share in the adjustment, at frequency 0
+abbrev pub unpaid : Clock → Clock
+unpaid c =
+    whole
+    (record {
+      time = timeOf c;
+      correction = record { offset = c .offset; adjustment = freshClock .adjustment };
+      tuning = tuningOf c;
+      update = updateOf c;
+      errors = errorsOf c;
+      status = c .status;
+    })
+
+-- a rollover after one that paid a share takes its share off the offset, and pays nothing
+abbrev pub pretends : Answers
+pretends c Tick =
+    record {
+      refusal = stepOf c Tick .refusal;
+      clock = cond (rollsOver c && paysShare c) (unpaid (stepOf c Tick .clock)) (stepOf c Tick .clock);
+      reading = noReading;
+    }
+pretends c (Setting s u) = stepOf c (Setting s u)
+pretends c (Request r) = stepOf c (Request r)
+pretends c Reading = stepOf c Reading
+
+-- n ticks
+abbrev pub ticksOnly : ℕ → List Event
+ticksOnly zero = []
+ticksOnly (suc n) = Tick ∷ ticksOnly n
+
+-- the greatest offset, asked just before a rollover that pays its first share, and ticks past the rollover that only pretends
+abbrev pub pretence : List Event
+pretence = set 0 999999 ∷ asks (pos 127999) ∷ ticksOnly 262
+
+-- none of them meets demand 3
+pub record ShutOut : Type 0 where
+  pub refusing : Demand3 refusesEverything [] → ⊥
+  pub zeros : Demand3 readsZero (Tick ∷ []) → ⊥
+  pub idle : Demand3 idles (Reading ∷ Tick ∷ Reading ∷ []) → ⊥
+  pub pretending : Demand3 pretends pretence → ⊥
