@@ -9,9 +9,8 @@ ghost use Prim.Native.Nat.{_/_};
 ghost use Rattle.clock.specs.Units.{secondsPerDay};
 ghost use Rattle.calendar.specs.Calendar.{dateOf};
 ghost use Rattle.calendar.specs.Search.{FoundAs};
-use clock::state::LAST_SECOND;
-
-const SECONDS_PER_DAY: u32 = 86400;
+use clock::LAST_SECOND;
+use clock::SECONDS_PER_DAY;
 
 // The days that the clock's seconds reach; the last, 7 February 2106, is not whole.
 const DAYS: u32 = LAST_SECOND / SECONDS_PER_DAY + 1;

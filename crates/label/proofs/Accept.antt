@@ -12,7 +12,7 @@ use Rattle.integers.proofs.Ranges.{and-true}
 use Rattle.clock.specs.declared.state.Clock.{Clock}
 use Rattle.clock.specs.State.{inRange, freshClock, lastSecond, statusOop, statusBad}
 use Rattle.clock.proofs.Ok.{ok}
-use Rattle.clock.specs.Units.{secondsPerDay}
+use Rattle.clock.specs.Units.{secondsPerDay, lastSecondOfDay}
 use Rattle.calendar.specs.declared.Date.{Date}
 use Rattle.calendar.specs.declared.Found.{Found}
 use Rattle.calendar.specs.declared.Found.the-variants.{Day, NoDay}
@@ -21,7 +21,7 @@ use Rattle.calendar.specs.Search.{FoundAs, found, none}
 use Rattle.calendar.proofs.Dates.{one-day, same-parts}
 use Rattle.label.specs.declared.Answer.{Answer}
 use Rattle.label.specs.declared.fields.Time.the-variants.{At, NoTime}
-use Rattle.label.specs.Label.{labelOf, isSixty, labelSize, lastSecondOfDay}
+use Rattle.label.specs.Label.{labelOf, isSixty, labelSize}
 use Rattle.label.specs.Reading.{WrittenFor, ReadsAs, accepted, refused}
 use Rattle.label.specs.Inner.{pairAt, isMarked, dateAt, AlikeDate, ShownBy, shown, unshown}
 use Rattle.label.proofs.Digits.{alike-small, small-alike}

@@ -9,12 +9,12 @@ use lib.Dec.{eqb}
 use lib.ListN.{length, drop, getD}
 use lib.Seq.{drop-cons, drop-length}
 use Rattle.integers.proofs.Ranges.{and-true}
-use Rattle.clock.specs.Units.{secondsPerDay}
+use Rattle.clock.specs.Units.{secondsPerDay, lastSecondOfDay}
 use Rattle.clock.specs.State.{lastSecond}
 use Rattle.calendar.specs.declared.Date.{Date}
 use Rattle.calendar.specs.Calendar.{dateOf, days}
 use Rattle.calendar.proofs.Dates.{on, same-parts}
-use Rattle.label.specs.Label.{digit, layout, labelOf, hyphen, letterT, colon, letterZ, labelSize, secondsPerMinute, minutesPerHour, hoursPerDay, secondsPerHour, lastSecondOfDay, insertedSecond}
+use Rattle.label.specs.Label.{digit, layout, labelOf, hyphen, letterT, colon, letterZ, labelSize, secondsPerMinute, minutesPerHour, hoursPerDay, secondsPerHour, insertedSecond}
 use Rattle.label.specs.Inner.{pairOf, pairAt, isMarked, dateAt, Shows, noPair}
 use Rattle.label.proofs.Digits.{pair-of-two, two-of-pair, tens-of-year, units-of-year}
 use Rattle.label.proofs.Parts.{Ranges, ranges, ranges-of}

@@ -10,11 +10,11 @@ use lib.ListN.{take, drop}
 use lib.Seq.{take-at}
 use Rattle.clock.specs.declared.state.Clock.{Clock}
 use Rattle.clock.specs.State.{lastSecond}
-use Rattle.clock.specs.Units.{secondsPerDay}
+use Rattle.clock.specs.Units.{secondsPerDay, lastSecondOfDay}
 use Rattle.calendar.proofs.Dates.{on, one-day}
 use Rattle.calendar.proofs.Closed.{date-right}
 use Rattle.label.specs.declared.Answer.{Answer}
-use Rattle.label.specs.Label.{labelOf, isSixty, clockLabel, labelSize, lastSecondOfDay}
+use Rattle.label.specs.Label.{labelOf, isSixty, clockLabel, labelSize}
 use Rattle.label.specs.Writing.{writeRefusal, writtenTo}
 use Rattle.label.specs.Reading.{WrittenFor, ReadsAs, accepted, refused}
 use Rattle.label.specs.Inner.{Shows, pairOf, pairAt, dateAt}

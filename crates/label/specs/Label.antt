@@ -1,9 +1,9 @@
 -- "UTC label": the twenty bytes of a second, and those of a clock.
 use mathlib.Core.Bool.{Bool, cond, _&&_}
 use mathlib.Core.List.{List, [], _∷_, _++_}
-use Prim.Native.Nat.{ℕ, _+_, _*_, _-_, _/_, _%_}
+use Prim.Native.Nat.{ℕ, _+_, _*_, _/_, _%_}
 use lib.Dec.{eqb}
-use Rattle.clock.specs.Units.{secondsPerDay}
+use Rattle.clock.specs.Units.{secondsPerDay, lastSecondOfDay}
 use Rattle.clock.specs.State.{statusOop}
 use Rattle.clock.specs.declared.state.Clock.{Clock}
 use Rattle.calendar.specs.declared.Date.{Date}
@@ -56,9 +56,6 @@ hoursPerDay = 24
 
 abbrev pub secondsPerHour : ℕ
 secondsPerHour = minutesPerHour * secondsPerMinute
-
-abbrev pub lastSecondOfDay : ℕ
-lastSecondOfDay = secondsPerDay - 1
 
 -- what an inserted second reads: it repeats the 59 before it
 abbrev pub insertedSecond : ℕ

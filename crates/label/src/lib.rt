@@ -9,11 +9,12 @@ ghost use mathlib.Core.Bool.{Bool};
 ghost use Rattle.label.specs.Writing.{writeRefusal, writtenTo, Readable};
 ghost use Rattle.label.specs.Reading.{ReadsAs};
 use crate::fields::Time;
-use crate::units::SECONDS_PER_DAY;
 use calendar::Found;
-use clock::state::Clock;
-use clock::state::LAST_SECOND;
-use clock::state::in_range;
+use clock::Clock;
+use clock::LAST_SECOND;
+use clock::SECONDS_PER_DAY;
+use clock::TIME_OOP;
+use clock::in_range;
 
 // Bytes of a label.
 const SIZE: usize = 20;
@@ -22,9 +23,6 @@ const SIZE: usize = 20;
 const LAST_DAY: u32 = LAST_SECOND / SECONDS_PER_DAY;
 
 const LAST_DAY_END: u32 = LAST_SECOND % SECONDS_PER_DAY;
-
-// The status of a clock while an inserted second is in progress.
-const TIME_OOP: u8 = 3;
 
 // Writes the clock's label into the first twenty bytes of `out`, and leaves the later ones. Answers 0; or refusal 1 for a clock
 // out of range, then 14 for a buffer of fewer than twenty bytes, and leaves the buffer as it was.

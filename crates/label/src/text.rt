@@ -6,13 +6,13 @@ ghost use Prim.Native.Nat.{_/_, _%_, _≤_, _<_};
 ghost use lib.Dec.{eqb};
 ghost use lib.ListN.{length, drop, set};
 ghost use Rattle.calendar.specs.Calendar.{dateOf};
-ghost use Rattle.clock.specs.Units.{secondsPerDay};
-ghost use Rattle.label.specs.Label.{digit, two, labelSize, secondsPerMinute, minutesPerHour, secondsPerHour, hoursPerDay, lastSecondOfDay, labelOf};
+ghost use Rattle.clock.specs.Units.{secondsPerDay, lastSecondOfDay};
+ghost use Rattle.label.specs.Label.{digit, two, labelSize, secondsPerMinute, minutesPerHour, secondsPerHour, hoursPerDay, labelOf};
 ghost use Rattle.label.specs.Inner.{dateText, timeText};
 use crate::units::MINUTES_PER_HOUR;
-use crate::units::SECONDS_PER_DAY;
 use crate::units::SECONDS_PER_HOUR;
 use crate::units::SECONDS_PER_MINUTE;
+use clock::SECONDS_PER_DAY;
 
 // The digit 0 and the marks between pairs of digits, in ASCII.
 const ZERO: u64 = 0x30;
