@@ -1,4 +1,4 @@
-// The units of time that a label counts in, but for those of the clock.
+// The units of time that a label counts in.
 use clock::SECONDS_PER_DAY;
 
 pub(crate) const SECONDS_PER_MINUTE: u32 = 60;

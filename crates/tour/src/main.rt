@@ -1,0 +1,116 @@
+// A tour of the clock, with a line of output for each step. A clock is a value: a call takes one and hands back the next, and refusal 0.
+// A call that is refused hands back the clock that it got, and the number of its refusal.
+use clock::AskedMicros;
+use clock::Clock;
+use clock::FREQUENCY_PER_PPM;
+use libc::STDOUT_FILENO;
+use request::ADJ_FREQUENCY;
+use request::ADJ_OFFSET;
+use request::AskedFrequency;
+use request::AskedOffset;
+use request::Request;
+
+// 2000-02-29T00:00:00Z, in seconds since 1970.
+const LEAP_DAY: u64 = 951782400;
+
+const FIFTY_PPM: i64 = 50 * (FREQUENCY_PER_PPM as i64);
+
+// The ticks of a second: the timer runs at 256 Hz.
+const SECOND: u64 = 256;
+
+fn main() {
+    // A clock to which nothing has happened yet shows 1970. Its status is 4, BAD: it is not to be relied on.
+    let new = clock::fresh();
+    show_clock(b"fresh", new);
+
+    // A setting takes any seconds and microseconds, and refuses those that no clock can show.
+    let set = clock::set(new, LEAP_DAY, AskedMicros(0));
+    show_clock(b"set", set.clock);
+
+    // A request changes the fields that its mode selects; the others are not looked at. This one moves the clock forward by 1,000 us,
+    // a little in each second, and has it gain 50 us a second from then on. An offset also turns the status to 0, OK.
+    let asked = Request {
+        mode: ADJ_OFFSET + ADJ_FREQUENCY,
+        offset: AskedOffset(1000),
+        frequency: AskedFrequency(FIFTY_PPM),
+        maxerror: AskedMicros(0),
+        esterror: AskedMicros(0),
+        status: 0,
+        constant: 0,
+    };
+    let adjusted = request::adjust(set.clock, asked);
+    show_refusal(b"1,000 us and 50 ppm asked for", adjusted.refusal);
+
+    // Neither is in force before a new second begins. In the one that then begins the clock gains 50 us by the frequency, and 1,000/1,024
+    // of a microsecond by the offset; a reading shows whole microseconds.
+    let first = clock::run_ticks(adjusted.clock, SECOND);
+    show_clock(b"a second later", first.clock);
+    let second = clock::run_ticks(first.clock, SECOND);
+    show_clock(b"another second later", second.clock);
+
+    save_and_restore(second.clock);
+}
+
+// Saves a clock, then restores it from a damaged copy of its record and from the record itself. No record is longer than 45 bytes.
+fn save_and_restore(c: Clock) {
+    let mut bytes = [0u8; 45];
+    let saved = record::write(c, &mut bytes);
+    let n = saved.length;
+    show_refusal(b"saved", saved.refusal);
+    let mut copy = bytes;
+    damage_and_restore(&mut copy[..n]);
+    restore(b"the record", &bytes[..n]);
+}
+
+// The first byte of a record is its version, and there is no version 9.
+fn damage_and_restore(bytes: &mut [u8]) {
+    if bytes.len() == 0 {
+        return;
+    }
+    bytes[0] = 9;
+    restore(b"the damaged copy", bytes);
+}
+
+// Any bytes may be handed in. Those that are no record get a refusal, and give the fresh clock.
+fn restore(what: &[u8], bytes: &[u8]) {
+    let restored = record::read(bytes);
+    show_refusal(what, restored.refusal);
+    show_clock(b"  which gives", restored.clock);
+}
+
+// A clock's label, and what a reading tells: the microseconds of the second, and the status.
+fn show_clock(what: &[u8], c: Clock) {
+    let mut text = [0u8; 20];
+    label::write(c, &mut text);
+    say(what);
+    say(b": ");
+    say(&text);
+    let told = clock::read(c);
+    say(b" and ");
+    io::print_decimal(STDOUT_FILENO, told.reading.micros.0 as u64);
+    say(b" us, status ");
+    io::print_decimal(STDOUT_FILENO, told.reading.status as u64);
+    say(b"\n");
+}
+
+// A refusal by its number, with a word on those that reading a record can give.
+fn show_refusal(what: &[u8], n: u8) {
+    say(what);
+    if n == 0 {
+        say(b": accepted\n");
+        return;
+    }
+    say(b": refused with ");
+    io::print_decimal(STDOUT_FILENO, n as u64);
+    match n {
+        10 => say(b", the bytes end inside the record\n"),
+        11 => say(b", a number is not in its shortest form\n"),
+        12 => say(b", the version is unknown or a field out of its range\n"),
+        13 => say(b", bytes follow the record\n"),
+        _ => say(b"\n"),
+    }
+}
+
+fn say(text: &[u8]) {
+    io::write_all(STDOUT_FILENO, text);
+}
