@@ -7,7 +7,7 @@ use native.Mathlib.Omega.{arith}
 use lib.ListN.{length, take, drop}
 use lib.Seq.{sets, sets-eq, length-sets, drop-at, length-take-le, take-append-seam}
 use borrow.Author.Tests.{le-leb, lt-leb, leb-true, leb-false}
-use Rattle.number.specs.Writing.{room, answered, filled, Counts, Writes}
+use Rattle.number.specs.Writing.{room, answered, filled, Writes}
 use Rattle.number.proofs.Lists.{either}
 
 module _ (buf : List ℕ) (at : ℕ) (ws : List ℕ) where
@@ -44,26 +44,21 @@ filled-length buf at ws =
     (λ t. sym (ap length (filled-short buf at ws (leb-false _ _ t))))
     (either (room buf at ws))
 
--- a count within the buffer, and one within a buffer that was filled
-pub counted : (buf after : List ℕ) (n : ℕ) → n ≤ length after → length after ≡ length buf → Counts buf after n
-counted buf after n h e = record { within = h; part = sym (length-take-le n after h); same = e }
-
 -- what a writer promises, with room and without
 module _ (buf : List ℕ) (at : ℕ) (ws : List ℕ) where
   pub writes-room : at + length ws ≤ length buf → {next : ℕ} {after : List ℕ} → next ≡ at + length ws → after ≡ sets buf at ws
       → Writes buf after at ws (record { refusal = 0; next = next })
   writes-room h {next} {after} p q =
       let same : length after ≡ length buf = ap length q ∙ length-sets buf at ws in
+      let within : next ≤ length after = omega arith in
       record {
         answer = rw p (answered-room buf at ws h);
         buffer = q ∙ filled-sets buf at ws h;
-        counts = counted buf after next (omega arith) same;
+        within = within;
+        part = sym (length-take-le next after within);
+        same = same;
       }
 
   pub writes-short : length buf < at + length ws → Writes buf buf at ws (record { refusal = 14; next = 0 })
   writes-short h =
-      record {
-        answer = answered-short buf at ws h;
-        buffer = filled-short buf at ws h;
-        counts = counted buf buf 0 (omega arith) refl;
-      }
+      record { answer = answered-short buf at ws h; buffer = filled-short buf at ws h; within = omega arith; part = refl; same = refl }

@@ -24,8 +24,8 @@ odd n h = simp (ne-eqb (n % 2) 0 h)
 
 pub unmapped-mapped : (z : ℤ) → unmapped (mapped z) ≡ z
 unfolding mapped
-unmapped-mapped (pos v) = even (2 * v) (omega arith) ∙ ap pos (omega arith)
-unmapped-mapped (negsuc k) = odd (2 * suc k - 1) (λ h. omega arith) ∙ ap negsuc (omega arith)
+unmapped-mapped (pos v) = even _ (omega arith) ∙ ap pos (omega arith)
+unmapped-mapped (negsuc k) = odd _ (λ h. omega arith) ∙ ap negsuc (omega arith)
 
 pub mapped-unmapped : (n : ℕ) → mapped (unmapped n) ≡ n
 unfolding mapped

@@ -20,15 +20,11 @@ answered buf at ws = cond (room buf at ws) (record { refusal = 0; next = at + le
 unfoldable pub filled : List ℕ → ℕ → List ℕ → List ℕ
 filled buf at ws = cond (room buf at ws) (take at buf ++ ws ++ drop (at + length ws) buf) buf
 
--- The place n that a writer answers counts bytes of the buffer, and the buffer has the length that it had. All of this follows from what
--- is said of both; it is stated so that a caller can go on with `&buf[..n]` and write no proof.
-pub record Counts (buf after : List ℕ) (n : ℕ) : Type 0 where
-  pub within : n ≤ length after
-  pub part : n ≡ length (take n after)
-  pub same : length after ≡ length buf
-
--- what a writer of the bytes ws at place `at` promises: its answer, the buffer afterwards, and what a caller needs of them
+-- What a writer of the bytes ws at place `at` promises: its answer and the buffer afterwards. The rest follows from these, and is stated so
+-- that a caller can go on with `&buf[..next]` and write no proof: the place counts bytes of the buffer, and the buffer keeps its length.
 pub record Writes (buf after : List ℕ) (at : ℕ) (ws : List ℕ) (r : Written) : Type 0 where
   pub answer : r ≡ answered buf at ws
   pub buffer : after ≡ filled buf at ws
-  pub counts : Counts buf after (r .next)
+  pub within : r .next ≤ length after
+  pub part : r .next ≡ length (take (r .next) after)
+  pub same : length after ≡ length buf

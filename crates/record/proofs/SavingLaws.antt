@@ -5,10 +5,10 @@ use mathlib.Core.List.{List, _++_}
 use Prim.Native.Nat.{ℕ, _+_, _*_, _<_, _≤_}
 use native.Mathlib.Omega.{arith}
 use lib.ListN.{length, take, drop, length-append, length-drop}
-use lib.Seq.{take-length}
+use lib.Seq.{take-length, length-take-le}
 use borrow.Author.Tests.{lt-ltb, le-ltb}
 use Rattle.number.specs.Writing.{answered, filled}
-use Rattle.number.proofs.Buffer.{answered-room, filled-there, counted}
+use Rattle.number.proofs.Buffer.{answered-room, filled-there}
 use Rattle.number.proofs.Sizes.{sizes-most}
 use Rattle.clock.specs.State.{inRange}
 use Rattle.clock.specs.declared.state.Clock.{Clock}
@@ -46,12 +46,12 @@ copied buf {src} e p = p ∙ rw (take-length src, e)
 module _ (c : Clock) (buf : List ℕ) where
   pub out-of-range : inRange c ≡ false → Saves c buf buf (record { refusal = 1; length = 0 })
   unfolding savingOf bufferAfter savingRefusal
-  out-of-range e = record { answer = simp e; buffer = simp e; counts = counted buf buf 0 (omega arith) refl }
+  out-of-range e = record { answer = simp e; buffer = simp e; within = omega arith; part = refl; same = refl }
 
   module _ (e : inRange c ≡ true) where
     pub too-short : length buf < length (recordOf c) → Saves c buf buf (record { refusal = 14; length = 0 })
     unfolding savingOf bufferAfter savingRefusal
-    too-short h = record { answer = simp (e, lt-ltb _ _ h); buffer = simp (e, lt-ltb _ _ h); counts = counted buf buf 0 (omega arith) refl }
+    too-short h = record { answer = simp (e, lt-ltb _ _ h); buffer = simp (e, lt-ltb _ _ h); within = omega arith; part = refl; same = refl }
 
     module _ (h : length (recordOf c) ≤ length buf) where
       accepted-answer : record { refusal = 0; length = length (recordOf c) } ≡ savingOf c buf
@@ -66,4 +66,5 @@ module _ (c : Clock) (buf : List ℕ) where
           → Saves c buf after (record { refusal = 0; length = n })
       stored {n} {after} p q =
           let same : length after ≡ length buf = omega (arith, simp (length-append, length-drop) at (ap length q)) in
-          record { answer = rw p accepted-answer; buffer = q ∙ accepted-buffer; counts = counted buf after n (omega arith) same }
+          let within : n ≤ length after = omega arith in
+          record { answer = rw p accepted-answer; buffer = q ∙ accepted-buffer; within = within; part = sym (length-take-le n after within); same = same }

@@ -3,10 +3,9 @@
 use mathlib.Core.Path.{_≡_}
 use mathlib.Core.Bool.{cond, not}
 use mathlib.Core.List.{List, _++_}
-use Prim.Native.Nat.{ℕ}
+use Prim.Native.Nat.{ℕ, _≤_}
 use lib.Dec.{ltb, eqb}
-use lib.ListN.{length, drop}
-use Rattle.number.specs.Writing.{Counts}
+use lib.ListN.{length, take, drop}
 use Rattle.clock.specs.State.{inRange}
 use Rattle.clock.specs.Refusal.{refuse}
 use Rattle.clock.specs.declared.state.Clock.{Clock}
@@ -26,8 +25,11 @@ savingOf c buf =
 unfoldable pub bufferAfter : Clock → List ℕ → List ℕ
 bufferAfter c buf = cond (eqb (savingRefusal c buf) 0) (recordOf c ++ drop (length (recordOf c)) buf) buf
 
--- what a write promises: its answer, the buffer afterwards, and what a caller needs of them to go on with `&buf[..length]`
+-- What a write promises: its answer and the buffer afterwards. The rest follows from these, and is stated so that a caller can go on with
+-- `&buf[..length]` and write no proof: the length counts bytes of the buffer, and the buffer keeps its own.
 pub record Saves (c : Clock) (buf after : List ℕ) (r : Saved) : Type 0 where
   pub answer : r ≡ savingOf c buf
   pub buffer : after ≡ bufferAfter c buf
-  pub counts : Counts buf after (r .length)
+  pub within : r .length ≤ length after
+  pub part : r .length ≡ length (take (r .length) after)
+  pub same : length after ≡ length buf

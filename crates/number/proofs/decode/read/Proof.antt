@@ -1,4 +1,4 @@
--- `number::decode::read` meets its contract: each answer by the laws of the bytes that were read on the way there.
+-- `number::read` meets its contract: each answer by the laws of the bytes that were read on the way there.
 use mathlib.Core.Path.{_≡_, refl, sym, _∙_, ap}
 use Prim.Native.Nat.{ℕ, _+_, _*_, _-_, _%_, _<_, _≤_}
 use native.Mathlib.Omega.{arith}
@@ -38,7 +38,7 @@ add-t10 c = search needs
 returns-2 : tie.Need-returns-2
 returns-2 c =
     let w = c .before in
-    sym (first-last _ _ (w .wide .result) (w .before .before .if1 .left) (w .wide .ensures .0) (c .if2 .taken))
+    sym (first-last _ _ (w .wide .result) (w .before .before .if1 .left) (w .wide .ensures .0) (omega arith))
 
 add-p : tie.Need-add-p
 add-p c = search needs
@@ -79,7 +79,7 @@ returns-4 c =
 returns-5 : tie.Need-returns-5
 returns-5 c =
     let w = c .before .before in
-    sym (after-first (w .before .before .before) (later-zero _ _ _ (w .wide2 .result) (w .before .before .if3 .left) (w .wide2 .ensures .0) (c .if5 .taken)))
+    sym (after-first (w .before .before .before) (later-zero _ _ _ (w .wide2 .result) (w .before .before .if3 .left) (w .wide2 .ensures .0) (omega arith)))
 
 mul-t16 : tie.Need-mul-t16
 mul-t16 c = search needs
@@ -103,7 +103,7 @@ returns-6 c =
     ap (λ (m : ℕ). number m (a .at + 1 + 1)) less
     ∙ sym
     (after-first e
-    (later-last _ _ _ (w .wide2 .result) (w .before .before .if3 .left) (w .wide2 .ensures .0) (c .before .if4 .left) (c .if5 .left)))
+    (later-last _ _ _ (w .wide2 .result) (w .before .before .if3 .left) (w .wide2 .ensures .0) (omega arith) (λ h. omega (arith, c .if5 .left))))
 
 pub read-spec : {M : Type 1} → statement M
 read-spec =

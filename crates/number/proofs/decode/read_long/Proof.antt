@@ -1,4 +1,4 @@
--- `number::decode::read_long` meets its contract. The loop's invariant: what is still to be read, on top of the sum, is what the call owes;
+-- `number::read_long` meets its contract. The loop's invariant: what is still to be read, on top of the sum, is what the call owes;
 -- the scale and the bytes left make up 2^35, so nothing wraps. The measure is the bytes left.
 use mathlib.Core.Path.{_≡_, refl, sym, _∙_, ap}
 use mathlib.Core.List.{List}

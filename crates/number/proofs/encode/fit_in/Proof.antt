@@ -1,4 +1,4 @@
--- `number::encode::fit_in` meets its contract. The loop's invariant: what the numbers passed take is gone from the room. The measure is the
+-- `number::fit_in` meets its contract. The loop's invariant: what the numbers passed take is gone from the room. The measure is the
 -- numbers left.
 use mathlib.Core.Path.{_≡_, sym, ap}
 use Prim.Native.Nat.{_+_, _-_, _≤_}

@@ -1,4 +1,4 @@
--- `number::encode::place` meets its contract. The loop's invariant: the stores still to be made, on the buffer as it is, are those of the
+-- `number::place` meets its contract. The loop's invariant: the stores still to be made, on the buffer as it is, are those of the
 -- whole number on the buffer as it was. The measure is the rest of the number.
 use mathlib.Core.Path.{_≡_, sym, _∙_}
 use Prim.Native.Nat.{_+_, _/_, _<_, _^_}
@@ -29,10 +29,10 @@ cast-buf : tie.Need-cast-buf Inv-loop μ-loop
 cast-buf c = search needs
 
 slice-write-buf : tie.Need-slice-write-buf Inv-loop μ-loop
-slice-write-buf c = omega (arith, size-more (c .before .loop .rest) (omega arith) (c .loop-test .taken))
+slice-write-buf c = omega (arith, size-more (c .before .loop .rest) (omega arith) (omega arith))
 
 add-p : tie.Need-add-p Inv-loop μ-loop
-add-p c = omega (arith, size-more (c .before .loop .rest) (omega arith) (c .loop-test .taken))
+add-p c = omega (arith, size-more (c .before .loop .rest) (omega arith) (omega arith))
 
 loop-less : tie.Need-loop-less Inv-loop μ-loop
 loop-less c = search needs
@@ -40,8 +40,8 @@ loop-less c = search needs
 loop-again : tie.Need-loop-again Inv-loop μ-loop
 loop-again c =
     let L = c .before .loop in
-    let e : length (bytesOf (L .rest)) ≡ 1 + length (bytesOf (L .rest / 128)) = size-more (L .rest) (omega arith) (c .loop-test .taken) in (
-      L .inv .0 ∙ sets-more (L .buf) (L .p) (L .rest) (omega arith) (c .loop-test .taken),
+    let e : length (bytesOf (L .rest)) ≡ 1 + length (bytesOf (L .rest / 128)) = size-more (L .rest) (omega arith) (omega arith) in (
+      L .inv .0 ∙ sets-more (L .buf) (L .p) (L .rest) (omega arith) (omega arith),
       (omega arith, (omega arith, simp length-set (L .inv .1 .1 .1))),
     )
 

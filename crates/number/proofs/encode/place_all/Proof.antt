@@ -1,4 +1,4 @@
--- `number::encode::place_all` meets its contract. The loop's invariant: the stores still to be made, on the buffer as it is, are those of
+-- `number::place_all` meets its contract. The loop's invariant: the stores still to be made, on the buffer as it is, are those of
 -- all the numbers on the buffer as it was. The measure is the numbers left.
 use mathlib.Core.Path.{_≡_, sym, _∙_, ap}
 use Prim.Native.Nat.{_+_, _-_, _≤_, _<_}
@@ -14,7 +14,7 @@ use Rattle.number.proofs.encode.place_all.Tie as tie
 abbrev Inv-loop : tie.InvT-loop
 Inv-loop buf₀ at ns p₀ i₀ buf p i =
     (sets buf₀ at (bytesOfAll ns) ≡ sets buf p (bytesOfAll (drop i ns)))
-    × ((at + length (bytesOfAll ns) ≡ p + length (bytesOfAll (drop i ns))) × ((i ≤ length ns) × (length buf ≡ length buf₀)))
+    × ((at + length (bytesOfAll ns) ≡ p + length (bytesOfAll (drop i ns))) × ((at ≤ p) × ((i ≤ length ns) × (length buf ≡ length buf₀))))
 
 abbrev μ-loop : tie.MeasureT-loop
 μ-loop buf₀ at ns p₀ i₀ buf p i = length ns - i
@@ -51,12 +51,12 @@ loop-again c =
       L .inv .0 ∙ rw (stores, next) (sets-at (L .buf) (L .p) ns (L .i) h),
       (
         omega (arith, sizes-at ns (L .i) h),
-        (omega arith, ap length stores ∙ length-sets _ _ (bytesOf (getD ns (L .i) 0)) ∙ L .inv .1 .1 .1),
+        (omega arith, (omega arith, ap length stores ∙ length-sets _ _ (bytesOf (getD ns (L .i) 0)) ∙ L .inv .1 .1 .1 .1)),
       ),
     )
 
 same-length : tie.Need-same-length Inv-loop μ-loop
-same-length c = c .before .loop .inv .1 .1 .1
+same-length c = c .before .loop .inv .1 .1 .1 .1
 
 returns : tie.Need-returns Inv-loop μ-loop
 returns c =

@@ -1,4 +1,4 @@
--- `number::encode::write` meets its contract: the two tests decide whether there is room.
+-- `number::write` meets its contract: the two tests decide whether there is room.
 use Prim.Native.Nat.{_+_, _<_, _≤_}
 use native.Mathlib.Omega.{arith}
 use lib.ListN.{length}

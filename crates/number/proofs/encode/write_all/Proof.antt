@@ -1,4 +1,4 @@
--- `number::encode::write_all` meets its contract: the two tests decide whether there is room for all the numbers.
+-- `number::write_all` meets its contract: the two tests decide whether there is room for all the numbers.
 use mathlib.Core.Path.{sym, _∙_}
 use Prim.Native.Nat.{_+_, _-_, _<_, _≤_}
 use native.Mathlib.Omega.{arith}

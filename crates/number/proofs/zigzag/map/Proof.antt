@@ -1,4 +1,4 @@
--- `number::zigzag::map` meets its contract: -1 - 2 v of a negative v is its number, and needs 64 bits on the way.
+-- `number::map` meets its contract: -1 - 2 v of a negative v is its number, and needs 64 bits on the way.
 use mathlib.Core.Path.{_≡_, sym, _∙_, ap}
 use Prim.Native.Nat.{_+_, _*_}
 use native.Mathlib.Omega.{arith}

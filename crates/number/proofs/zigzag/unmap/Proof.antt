@@ -1,4 +1,4 @@
--- `number::zigzag::unmap` meets its contract: half of n, or -1 less half of n.
+-- `number::unmap` meets its contract: half of n, or -1 less half of n.
 use mathlib.Core.Path.{sym, _∙_}
 use Prim.Native.Nat.{_/_}
 use native.Mathlib.Omega.{arith}

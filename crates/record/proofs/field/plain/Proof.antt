@@ -1,4 +1,4 @@
--- `record::field::plain` meets its contract: the test is the range.
+-- `record::plain` meets its contract: the test is the range.
 use borrow.Author.Needs.{needs}
 use borrow.Author.Tests.{le-leb, lt-leb}
 use Rattle.record.proofs.FieldLaws.{field-no, field-in, field-out}

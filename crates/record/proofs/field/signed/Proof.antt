@@ -1,4 +1,4 @@
--- `record::field::signed` meets its contract: its two tests are the range.
+-- `record::signed` meets its contract: its two tests are the range.
 use borrow.Author.Needs.{needs}
 use borrow.Author.Tests.{le-leb, lt-leb}
 use mathlib.Core.Path.{_≡_, sym, _∙_, ap}

@@ -1,4 +1,4 @@
--- `record::field::unmapped_of` meets its contract: what a number of 32 bits is mapped from has 32 bits.
+-- `record::unmapped_of` meets its contract: what a number of 32 bits is mapped from has 32 bits.
 use mathlib.Core.Path.{_≡_}
 use native.Mathlib.Omega.{arith}
 use mir.Syntax.{w32, w64}

@@ -1,4 +1,4 @@
--- `record::field::version` meets its contract: the one known version.
+-- `record::version` meets its contract: the one known version.
 use borrow.Author.Needs.{needs}
 use mathlib.Core.Path.{_≡_, sym, _∙_, ap}
 use native.Mathlib.Omega.{arith}

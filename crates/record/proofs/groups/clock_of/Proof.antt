@@ -1,4 +1,4 @@
--- `record::groups::clock_of` meets its contract: the signed numbers are kept as they are.
+-- `record::clock_of` meets its contract: the signed numbers are kept as they are.
 use borrow.Author.Needs.{needs}
 use mathlib.Core.Path.{_∙_}
 use mir.Syntax.{w32}

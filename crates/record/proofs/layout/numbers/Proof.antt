@@ -1,4 +1,4 @@
--- `record::layout::numbers` meets its contract: the signed fields are mapped, the others are as they are.
+-- `record::numbers` meets its contract: the signed fields are mapped, the others are as they are.
 use borrow.Author.Needs.{needs}
 use mir.Syntax.{w32}
 use mir.Val.{SFits}

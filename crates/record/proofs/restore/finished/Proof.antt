@@ -1,4 +1,4 @@
--- `record::restore::finished` meets its contract: 13 where anything follows.
+-- `record::finished` meets its contract: 13 where anything follows.
 use mathlib.Core.Path.{sym, _∙_}
 use Prim.Native.Nat.{_≤_, _<_}
 use native.Mathlib.Omega.{arith}

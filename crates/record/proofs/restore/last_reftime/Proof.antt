@@ -1,4 +1,4 @@
--- `record::restore::last_reftime` meets its contract.
+-- `record::last_reftime` meets its contract: the flag is tested as the range tests it.
 use borrow.Author.Tests.{eq-eqb, ne-eqb}
 use Rattle.record.proofs.restore.last_reftime.Statement.{statement}
 use Rattle.record.proofs.restore.last_reftime.Tie as tie

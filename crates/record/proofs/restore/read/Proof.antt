@@ -1,4 +1,4 @@
--- `record::restore::read` meets its contract: the version, and then the fields.
+-- `record::read` meets its contract: the version, and then the fields.
 use mathlib.Core.Path.{_≡_, refl, sym, _∙_, ap}
 use mathlib.Core.List.{List}
 use Prim.Native.Nat.{ℕ}

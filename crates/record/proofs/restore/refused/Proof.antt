@@ -1,4 +1,4 @@
--- `record::restore::refused` meets its contract: the number of the field that was refused.
+-- `record::refused` meets its contract: the number of the field that was refused.
 use borrow.Author.Needs.{needs}
 use mathlib.Core.Path.{sym, _∙_, ap}
 use Rattle.record.specs.declared.field.Field.{Field}

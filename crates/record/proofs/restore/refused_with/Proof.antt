@@ -1,4 +1,4 @@
--- `record::restore::refused_with` meets its contract: the fresh clock beside the number.
+-- `record::refused_with` meets its contract: the fresh clock beside the number.
 use Rattle.record.proofs.restore.refused_with.Statement.{statement}
 use Rattle.record.proofs.restore.refused_with.Tie as tie
 

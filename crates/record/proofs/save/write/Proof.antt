@@ -1,4 +1,4 @@
--- `record::save::write` meets its contract: the record is written into a text of its own, and copied where there is room for it.
+-- `record::write` meets its contract: the record is written into a text of its own, and copied where there is room for it.
 use borrow.Author.Needs.{needs}
 use borrow.Author.Tests.{not-true, not-false}
 use mathlib.Core.Path.{_≡_, refl, sym, _∙_, ap}
@@ -62,7 +62,7 @@ returns-3 c =
     let e = c .before .before .before .before .before in
     let w = e .before .before in
     let d = draft w in
-    stored _ (start w .args .buf .now) (sound w) (omega (arith, d .size, e .if2 .left)) (d .size)
+    stored _ (start w .args .buf .now) (sound w) (omega (arith, d .size, e .if2 .left)) (omega (arith, d .size))
     (copied (start w .args .buf .now) (d .bytes) (c .before .before .copy .ensures .1))
 
 pub write-spec : {M : Type 1} → statement M
