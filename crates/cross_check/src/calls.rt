@@ -1,8 +1,6 @@
 // One case of each kind of event on the clock, run by both implementations.
-use crate::first::same_catch_up;
-use crate::first::same_constants;
 use crate::first::same_event;
-use crate::first::same_fresh;
+use crate::first::same_start;
 use crate::first::same_ticks;
 use crate::random::draw;
 use crate::random::row;
@@ -43,7 +41,7 @@ fn some_code(case: u64) -> u64 {
 // A list of 5,000 events from a fresh clock. Its refusal is the last one that an event gave.
 pub(crate) fn list(case: u64) -> Verdict {
     let mut s = fresh();
-    let mut same = same_fresh(s) & same_constants();
+    let mut same = same_start(s);
     let mut refusal: u64 = 0;
     let mut k: u64 = 0;
     while k < 5000 {
@@ -66,9 +64,8 @@ pub(crate) fn many_ticks(case: u64) -> Verdict {
     let s = state(case);
     let n = draw(case, 83) % 701;
     let all = ticks(s, n, false);
-    let same = same_ticks(s, n, all);
     Verdict {
         refusal: all.refusal,
-        same: same & same_catch_up(s, n, ticks(s, n, true)),
+        same: same_ticks(s, n, all, ticks(s, n, true)),
     }
 }

@@ -108,10 +108,6 @@ fn same_reading(s: State, r: Reading) -> bool {
     same & same_word(s.estimated, r.esterror.0)
 }
 
-fn same_outcome(a: Answer, o: Outcome) -> bool {
-    same_byte(a.refusal, o.refusal) & same_clock(a.state, o.clock)
-}
-
 // A request is a row: code, mode, then the fields in order of mode bit, offset and frequency mapped.
 fn request_of(row: &[u64; 13]) -> Request {
     Request {
@@ -161,39 +157,35 @@ fn same_told(a: Answer, c: Clock) -> bool {
 // An event by its own call and as a step of a list, where the second has answered `a`; and the clock that it meets.
 pub(crate) fn same_event(s: State, row: &[u64; 13], a: Answer) -> bool {
     let c = clock_of(s);
+    let o = called(c, row);
     let e = event::step(c, event_of(row));
-    let mut same = same_told(reading(s), c) & same_outcome(a, called(c, row));
+    let mut same = same_told(reading(s), c);
+    same = same & same_byte(a.refusal, o.refusal) & same_clock(a.state, o.clock);
     same = same & same_byte(a.refusal, e.refusal) & same_clock(a.state, e.clock);
     same & same_reading(shown(a, row[0]), e.reading)
 }
 
-// The clock that every list begins with.
-pub(crate) fn same_fresh(s: State) -> bool {
-    same_clock(s, clock::fresh())
-}
-
-// The bits of a mode, and the timer's rate with the constants that follow from it.
-pub(crate) fn same_constants() -> bool {
+// What a caller begins with: the fresh clock, the bits of a mode, and the timer's rate with the constants that follow from it.
+pub(crate) fn same_start(s: State) -> bool {
     let m = request::mode_bits();
     let d = clock::device_constants();
-    let mut same = (m.offset == 1) & (m.frequency == 2) & (m.maxerror == 4);
+    let mut same = same_clock(s, clock::fresh());
+    same = same & (m.offset == 1) & (m.frequency == 2) & (m.maxerror == 4);
     same = same & (m.esterror == 8) & (m.status == 16) & (m.constant == 32);
     same = same & (d.rate == 256) & (d.tick.0 == 3906) & (d.scale == 64) & (d.divisor == 16);
     same = same & (d.base.0 == 67108864);
     same & (d.least.0 == -168819712) & (d.most.0 == 303037440)
 }
 
-// Up to n ticks in one call, where the second has answered `a`.
-pub(crate) fn same_ticks(s: State, n: u64, a: Ran) -> bool {
-    let o = clock::run_ticks(clock_of(s), n);
-    same_byte(a.refusal, o.refusal) & same_clock(a.state, o.clock)
-}
-
-// The same, none after a rollover, and how many ticks were not accepted.
-pub(crate) fn same_catch_up(s: State, n: u64, a: Ran) -> bool {
-    let o = clock::ticks_to_rollover(clock_of(s), n);
-    let same = same_byte(a.refusal, o.refusal) & same_clock(a.state, o.clock);
-    same & (a.left == o.left)
+// Up to n ticks in one call, where the second has answered `all`; and in one that stops at a rollover and tells how many were not accepted,
+// where it has answered `part`.
+pub(crate) fn same_ticks(s: State, n: u64, all: Ran, part: Ran) -> bool {
+    let c = clock_of(s);
+    let o = clock::run_ticks(c, n);
+    let p = clock::ticks_to_rollover(c, n);
+    let mut same = same_byte(all.refusal, o.refusal) & same_clock(all.state, o.clock);
+    same = same & same_byte(part.refusal, p.refusal) & same_clock(part.state, p.clock);
+    same & (part.left == p.left)
 }
 
 // The number at `at` of the first `end` bytes.
@@ -305,7 +297,7 @@ fn same_run(mine: Replayed, run: Run) -> bool {
     same & same_clock(mine.state, run.clock)
 }
 
-pub(crate) fn same_start(mine: Replayed) -> bool {
+pub(crate) fn same_begun(mine: Replayed) -> bool {
     same_run(mine, playback::run::start())
 }
 

@@ -1,7 +1,7 @@
 // One history, run by both implementations.
 use crate::calls::Verdict;
+use crate::first::same_begun;
 use crate::first::same_replay;
-use crate::first::same_start;
 use crate::form::put_all;
 use crate::random::Bytes;
 use crate::random::draw;
@@ -97,7 +97,7 @@ pub(crate) fn long(case: u64) -> Verdict {
     let end = (65536 + n) as usize;
     let from = begun(fresh(), end);
     let room = (30 + case % 35) as usize;
-    let same = same_start(from) & same_replay(&bytes[..end], [4u8; 64], from, room);
+    let same = same_begun(from) & same_replay(&bytes[..end], [4u8; 64], from, room);
     Verdict {
         refusal: 12 + n,
         same: same,

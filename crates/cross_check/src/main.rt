@@ -1,6 +1,7 @@
 // Runs a second implementation of document 01 beside the first, over pseudo-random and edge cases, and compares every answer to the last bit.
 // One line for each group says how many cases were compared, how many differ, and how often the second implementation gave each answer:
-// 0 for accepted, else the number of the refusal.
+// 0 for accepted, else the number of the refusal. The last line is the verdict: it ends in `the two agree` where every group has cases and
+// none of them differs; else it begins with `cross_check: DIFFER` and names the other groups, with how many cases differ of how many.
 mod calls;
 mod dates;
 mod first;

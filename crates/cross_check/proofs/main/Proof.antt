@@ -3,9 +3,6 @@ use Prim.Native.Nat.{_-_, _≤_}
 use borrow.Author.Needs.{needs}
 use Rattle.cross_check.proofs.main.Statement.{statement}
 use Rattle.cross_check.proofs.main.Tie as tie
-use Rattle.cross_check.proofs.run.Reads as run-reads
-use Rattle.cross_check.proofs.tell_head.Reads as tell-head-reads
-use Rattle.cross_check.proofs.tell_verdict.Reads as tell-verdict-reads
 
 abbrev Inv-loop : tie.InvT-loop
 Inv-loop compared₀ differ₀ k₀ compared differ k = k ≤ 16

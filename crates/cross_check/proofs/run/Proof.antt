@@ -3,11 +3,6 @@ use Prim.Native.Nat.{_-_, _≤_}
 use borrow.Author.Needs.{needs}
 use Rattle.cross_check.proofs.run.Statement.{statement}
 use Rattle.cross_check.proofs.run.Tie as tie
-use Rattle.cross_check.proofs.cases_of.Reads as cases-of-reads
-use Rattle.cross_check.proofs.noted.Reads as noted-reads
-use Rattle.cross_check.proofs.run_case.Reads as run-case-reads
-use Rattle.cross_check.proofs.tell_answers.Reads as tell-answers-reads
-use Rattle.cross_check.proofs.tell_counts.Reads as tell-counts-reads
 
 abbrev Inv-loop : tie.InvT-loop
 Inv-loop group n met₀ t₀ i₀ met t i = i ≤ n

@@ -3,8 +3,6 @@ use Prim.Native.Nat.{_-_, _≤_}
 use borrow.Author.Needs.{needs}
 use Rattle.cross_check.proofs.tell_answers.Statement.{statement}
 use Rattle.cross_check.proofs.tell_answers.Tie as tie
-use Rattle.cross_check.proofs.end_line.Reads as end-line-reads
-use Rattle.cross_check.proofs.tell_answer.Reads as tell-answer-reads
 
 abbrev Inv-loop : tie.InvT-loop
 Inv-loop met k₀ k = k ≤ 16

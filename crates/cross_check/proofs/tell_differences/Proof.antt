@@ -3,9 +3,6 @@ use Prim.Native.Nat.{_-_, _≤_}
 use borrow.Author.Needs.{needs}
 use Rattle.cross_check.proofs.tell_differences.Statement.{statement}
 use Rattle.cross_check.proofs.tell_differences.Tie as tie
-use Rattle.cross_check.proofs.end_line.Reads as end-line-reads
-use Rattle.cross_check.proofs.tell_difference.Reads as tell-difference-reads
-use Rattle.io.proofs.write_all.Reads as write-all-reads
 
 abbrev Inv-loop : tie.InvT-loop
 Inv-loop compared differ k₀ k = k ≤ 16

@@ -3,11 +3,6 @@ use Prim.Native.Nat.{_-_, _≤_}
 use borrow.Author.Needs.{needs}
 use Rattle.cross_check.proofs.tell_verdict.Statement.{statement}
 use Rattle.cross_check.proofs.tell_verdict.Tie as tie
-use Rattle.cross_check.proofs.agrees.Reads as agrees-reads
-use Rattle.cross_check.proofs.signed.pick.Reads as pick-reads
-use Rattle.cross_check.proofs.signed.plus.Reads as plus-reads
-use Rattle.cross_check.proofs.tell_agreement.Reads as tell-agreement-reads
-use Rattle.cross_check.proofs.tell_differences.Reads as tell-differences-reads
 
 abbrev Inv-loop : tie.InvT-loop
 Inv-loop compared differ cases₀ agreeing₀ k₀ cases agreeing k = k ≤ 16

@@ -3,14 +3,6 @@ use Prim.Native.Nat.{_-_, _≤_}
 use borrow.Author.Needs.{needs}
 use Rattle.cross_check.proofs.calls.list.Statement.{statement}
 use Rattle.cross_check.proofs.calls.list.Tie as tie
-use Rattle.cross_check.proofs.calls.some_code.Reads as some-code-reads
-use Rattle.cross_check.proofs.first.same_constants.Reads as same-constants-reads
-use Rattle.cross_check.proofs.first.same_event.Reads as same-event-reads
-use Rattle.cross_check.proofs.first.same_fresh.Reads as same-fresh-reads
-use Rattle.cross_check.proofs.random.row.Reads as row-reads
-use Rattle.cross_check.proofs.rules.fresh.Reads as fresh-reads
-use Rattle.cross_check.proofs.rules.step.Reads as step-reads
-use Rattle.cross_check.proofs.signed.pick.Reads as pick-reads
 
 abbrev Inv-loop : tie.InvT-loop
 Inv-loop case s₀ same₀ refusal₀ k₀ s same refusal k = k ≤ 5000
@@ -21,11 +13,8 @@ abbrev μ-loop : tie.MeasureT-loop
 fresh-requires : tie.Need-fresh-requires Inv-loop μ-loop
 fresh-requires c κs = search needs
 
-same-fresh-requires : tie.Need-same-fresh-requires Inv-loop μ-loop
-same-fresh-requires c κs = search needs
-
-same-constants-requires : tie.Need-same-constants-requires Inv-loop μ-loop
-same-constants-requires c κs = search needs
+same-start-requires : tie.Need-same-start-requires Inv-loop μ-loop
+same-start-requires c κs = search needs
 
 loop-holds : tie.Need-loop-holds Inv-loop μ-loop
 loop-holds c = search needs
@@ -70,8 +59,7 @@ list-spec =
     Inv-loop
     μ-loop
     fresh-requires
-    same-fresh-requires
-    same-constants-requires
+    same-start-requires
     loop-holds
     mul-c
     add-c

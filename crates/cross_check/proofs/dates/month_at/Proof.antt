@@ -3,8 +3,6 @@ use Prim.Native.Nat.{_-_, _≤_}
 use borrow.Author.Needs.{needs}
 use Rattle.cross_check.proofs.dates.month_at.Statement.{statement}
 use Rattle.cross_check.proofs.dates.month_at.Tie as tie
-use Rattle.cross_check.proofs.dates.month_days.Reads as month-days-reads
-use Rattle.cross_check.proofs.signed.minus.Reads as minus-reads
 
 abbrev Inv-loop : tie.InvT-loop
 Inv-loop year days month₀ left₀ month left = month ≤ 12

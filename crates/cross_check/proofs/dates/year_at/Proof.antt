@@ -3,8 +3,6 @@ use Prim.Native.Nat.{_-_, _≤_}
 use borrow.Author.Needs.{needs}
 use Rattle.cross_check.proofs.dates.year_at.Statement.{statement}
 use Rattle.cross_check.proofs.dates.year_at.Tie as tie
-use Rattle.cross_check.proofs.dates.year_days.Reads as year-days-reads
-use Rattle.cross_check.proofs.signed.minus.Reads as minus-reads
 
 abbrev Inv-loop : tie.InvT-loop
 Inv-loop days year₀ left₀ year left = year ≤ 2200

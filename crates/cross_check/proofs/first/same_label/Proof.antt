@@ -4,9 +4,6 @@ use lib.ListN.{length-take}
 use borrow.Author.Needs.{needs}
 use Rattle.cross_check.proofs.first.same_label.Statement.{statement}
 use Rattle.cross_check.proofs.first.same_label.Tie as tie
-use Rattle.cross_check.proofs.first.same_byte.Reads as same-byte-reads
-use Rattle.cross_check.proofs.first.same_word.Reads as same-word-reads
-use Rattle.label.proofs.read.Reads as read-reads
 
 array-share-prefix-text : tie.Need-array-share-prefix-text
 array-share-prefix-text c = search needs

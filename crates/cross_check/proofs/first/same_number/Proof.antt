@@ -4,8 +4,6 @@ use lib.ListN.{length-take}
 use borrow.Author.Needs.{needs}
 use Rattle.cross_check.proofs.first.same_number.Statement.{statement}
 use Rattle.cross_check.proofs.first.same_number.Tie as tie
-use Rattle.cross_check.proofs.first.same_byte.Reads as same-byte-reads
-use Rattle.number.proofs.decode.read.Reads as read-reads
 
 add-after : tie.Need-add-after
 add-after c = search needs

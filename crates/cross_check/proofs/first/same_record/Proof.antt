@@ -4,9 +4,6 @@ use lib.ListN.{length-take}
 use borrow.Author.Needs.{needs}
 use Rattle.cross_check.proofs.first.same_record.Statement.{statement}
 use Rattle.cross_check.proofs.first.same_record.Tie as tie
-use Rattle.cross_check.proofs.first.same_byte.Reads as same-byte-reads
-use Rattle.cross_check.proofs.first.same_clock.Reads as same-clock-reads
-use Rattle.record.proofs.restore.read.Reads as read-reads
 
 array-share-prefix-bytes : tie.Need-array-share-prefix-bytes
 array-share-prefix-bytes c = search needs

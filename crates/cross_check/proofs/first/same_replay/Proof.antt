@@ -5,11 +5,6 @@ use lib.ListN.{length-take}
 use borrow.Author.Needs.{needs}
 use Rattle.cross_check.proofs.first.same_replay.Statement.{statement}
 use Rattle.cross_check.proofs.first.same_replay.Tie as tie
-use Rattle.cross_check.proofs.first.clock_of.Reads as clock-of-reads
-use Rattle.cross_check.proofs.first.same_call.Reads as same-call-reads
-use Rattle.cross_check.proofs.first.same_part.Reads as same-part-reads
-use Rattle.cross_check.proofs.replay.caught_up.Reads as caught-up-reads
-use Rattle.playback.proofs.run.fill.Reads as fill-reads
 
 abbrev Inv-loop : tie.InvT-loop
 Inv-loop bytes from room head out₀ mine₀ same₀ left₀ out mine same left = left ≤ 66

@@ -7,7 +7,6 @@ use mir.Facts.{toZ-ofZ}
 use borrow.Author.Needs.{needs}
 use Rattle.cross_check.proofs.first.same_signed.Statement.{statement}
 use Rattle.cross_check.proofs.first.same_signed.Tie as tie
-use Rattle.cross_check.proofs.first.to_i64.Reads as to-i64-reads
 
 wide : {z : ℤ} → SFits w32 z → SFits w64 z
 wide f = record { sfits = omega (arith, f .sfits) }

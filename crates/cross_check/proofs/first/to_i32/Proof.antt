@@ -4,11 +4,8 @@ use native.Mathlib.Omega.{arith}
 use mir.Syntax.{w32}
 use borrow.Author.Needs.{needs}
 use Rattle.number.proofs.Mapping.{down-fits}
-use borrow.Author.Needs.{needs}
 use Rattle.cross_check.proofs.first.to_i32.Statement.{statement}
 use Rattle.cross_check.proofs.first.to_i32.Tie as tie
-use Rattle.cross_check.proofs.signed.minus.Reads as minus-reads
-use Rattle.cross_check.proofs.signed.unmapped.Reads as unmapped-reads
 
 unmapped-requires : tie.Need-unmapped-requires
 unmapped-requires c κs = search needs

@@ -4,9 +4,6 @@ use lib.ListN.{length-take}
 use borrow.Author.Needs.{needs}
 use Rattle.cross_check.proofs.first.write_label.Statement.{statement}
 use Rattle.cross_check.proofs.first.write_label.Tie as tie
-use Rattle.cross_check.proofs.first.clock_of.Reads as clock-of-reads
-use Rattle.cross_check.proofs.signed.wide.Reads as wide-reads
-use Rattle.label.proofs.write.Reads as write-reads
 
 clock-of-requires : tie.Need-clock-of-requires
 clock-of-requires c κs = search needs

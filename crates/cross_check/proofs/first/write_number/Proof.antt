@@ -4,9 +4,6 @@ use lib.ListN.{length-take}
 use borrow.Author.Needs.{needs}
 use Rattle.cross_check.proofs.first.write_number.Statement.{statement}
 use Rattle.cross_check.proofs.first.write_number.Tie as tie
-use Rattle.cross_check.proofs.first.word.Reads as word-reads
-use Rattle.cross_check.proofs.signed.wide.Reads as wide-reads
-use Rattle.number.proofs.encode.write.Reads as write-reads
 
 array-borrow-prefix-buf : tie.Need-array-borrow-prefix-buf
 array-borrow-prefix-buf c = search needs

@@ -4,9 +4,6 @@ use lib.ListN.{length-take}
 use borrow.Author.Needs.{needs}
 use Rattle.cross_check.proofs.first.write_numbers.Statement.{statement}
 use Rattle.cross_check.proofs.first.write_numbers.Tie as tie
-use Rattle.cross_check.proofs.first.word.Reads as word-reads
-use Rattle.cross_check.proofs.signed.wide.Reads as wide-reads
-use Rattle.number.proofs.encode.write_all.Reads as write-all-reads
 
 word-requires : tie.Need-word-requires
 word-requires c κs = search needs

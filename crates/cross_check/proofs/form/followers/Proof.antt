@@ -3,9 +3,6 @@ use Prim.Native.Nat.{_-_, _≤_}
 use borrow.Author.Needs.{needs}
 use Rattle.cross_check.proofs.form.followers.Statement.{statement}
 use Rattle.cross_check.proofs.form.followers.Tie as tie
-use Rattle.cross_check.proofs.signed.wide.Reads as wide-reads
-use Rattle.cross_check.proofs.signed.minus.Reads as minus-reads
-use Rattle.cross_check.proofs.signed.pick.Reads as pick-reads
 
 abbrev Inv-loop : tie.InvT-loop
 Inv-loop bytes end at room more₀ k₀ more k = k ≤ 5

@@ -3,7 +3,6 @@ use Prim.Native.Nat.{_-_, _≤_}
 use borrow.Author.Needs.{needs}
 use Rattle.cross_check.proofs.form.put.Statement.{statement}
 use Rattle.cross_check.proofs.form.put.Tie as tie
-use Rattle.cross_check.proofs.signed.pick.Reads as pick-reads
 
 abbrev Inv-loop : tie.InvT-loop
 Inv-loop bytes₀ at n rest₀ p₀ k₀ bytes rest p k = k ≤ 5

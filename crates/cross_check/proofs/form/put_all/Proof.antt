@@ -3,7 +3,6 @@ use Prim.Native.Nat.{_-_, _≤_}
 use borrow.Author.Needs.{needs}
 use Rattle.cross_check.proofs.form.put_all.Statement.{statement}
 use Rattle.cross_check.proofs.form.put_all.Tie as tie
-use Rattle.cross_check.proofs.form.put.Reads as put-reads
 
 abbrev Inv-loop : tie.InvT-loop
 Inv-loop bytes₀ at row mask next₀ rest₀ k₀ bytes next rest k = k ≤ 13

@@ -3,9 +3,6 @@ use Prim.Native.Nat.{_-_, _≤_}
 use borrow.Author.Needs.{needs}
 use Rattle.cross_check.proofs.form.take.Statement.{statement}
 use Rattle.cross_check.proofs.form.take.Tie as tie
-use Rattle.cross_check.proofs.form.number_if.Reads as number-if-reads
-use Rattle.cross_check.proofs.signed.pick.Reads as pick-reads
-use Rattle.cross_check.proofs.signed.plus.Reads as plus-reads
 
 abbrev Inv-loop : tie.InvT-loop
 Inv-loop bytes end mask row₀ c₀ rest₀ k₀ row c rest k = k ≤ 13

@@ -3,7 +3,6 @@ use Prim.Native.Nat.{_≤_}
 use borrow.Author.Needs.{needs}
 use Rattle.cross_check.proofs.form.value_of.Statement.{statement}
 use Rattle.cross_check.proofs.form.value_of.Tie as tie
-use Rattle.cross_check.proofs.signed.wide.Reads as wide-reads
 
 abbrev Inv-loop : tie.InvT-loop
 Inv-loop bytes at more value₀ k₀ value k = k ≤ 8

@@ -4,10 +4,6 @@ use lib.ListN.{length-take}
 use borrow.Author.Needs.{needs}
 use Rattle.cross_check.proofs.histories.long.Statement.{statement}
 use Rattle.cross_check.proofs.histories.long.Tie as tie
-use Rattle.cross_check.proofs.first.same_replay.Reads as same-replay-reads
-use Rattle.cross_check.proofs.first.same_start.Reads as same-start-reads
-use Rattle.cross_check.proofs.replay.begun.Reads as begun-reads
-use Rattle.cross_check.proofs.rules.fresh.Reads as fresh-reads
 
 add-end : tie.Need-add-end
 add-end c = search needs
@@ -21,8 +17,8 @@ begun-requires c κs = search needs
 add-room : tie.Need-add-room
 add-room c = search needs
 
-same-start-requires : tie.Need-same-start-requires
-same-start-requires c κs = search needs
+same-begun-requires : tie.Need-same-begun-requires
+same-begun-requires c κs = search needs
 
 array-share-prefix-bytes : tie.Need-array-share-prefix-bytes
 array-share-prefix-bytes c = search needs
@@ -47,7 +43,7 @@ long-spec =
     fresh-requires
     begun-requires
     add-room
-    same-start-requires
+    same-begun-requires
     array-share-prefix-bytes
     slice-aggregate-same-replay
     same-replay-requires

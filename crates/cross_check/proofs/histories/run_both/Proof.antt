@@ -4,7 +4,6 @@ use lib.ListN.{length-take}
 use borrow.Author.Needs.{needs}
 use Rattle.cross_check.proofs.histories.run_both.Statement.{statement}
 use Rattle.cross_check.proofs.histories.run_both.Tie as tie
-use Rattle.cross_check.proofs.first.same_replay.Reads as same-replay-reads
 
 array-share-prefix-bytes : tie.Need-array-share-prefix-bytes
 array-share-prefix-bytes c = search needs

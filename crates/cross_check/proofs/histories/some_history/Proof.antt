@@ -3,12 +3,6 @@ use Prim.Native.Nat.{_-_, _≤_}
 use borrow.Author.Needs.{needs}
 use Rattle.cross_check.proofs.histories.some_history.Statement.{statement}
 use Rattle.cross_check.proofs.histories.some_history.Tie as tie
-use Rattle.cross_check.proofs.form.put_all.Reads as put-all-reads
-use Rattle.cross_check.proofs.histories.some_event.Reads as some-event-reads
-use Rattle.cross_check.proofs.random.damaged.Reads as damaged-reads
-use Rattle.cross_check.proofs.random.some_bytes.Reads as some-bytes-reads
-use Rattle.cross_check.proofs.replay.mask_of.Reads as mask-of-reads
-use Rattle.cross_check.proofs.signed.pick.Reads as pick-reads
 
 abbrev Inv-loop : tie.InvT-loop
 Inv-loop case bytes₀ end₀ k₀ bytes end k = k ≤ 16

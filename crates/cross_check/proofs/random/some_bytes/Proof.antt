@@ -3,9 +3,6 @@ use Prim.Native.Nat.{_-_, _≤_}
 use borrow.Author.Needs.{needs}
 use Rattle.cross_check.proofs.random.some_bytes.Statement.{statement}
 use Rattle.cross_check.proofs.random.some_bytes.Tie as tie
-use Rattle.cross_check.proofs.random.draw.Reads as draw-reads
-use Rattle.cross_check.proofs.random.some_byte.Reads as some-byte-reads
-use Rattle.cross_check.proofs.signed.pick.Reads as pick-reads
 
 abbrev Inv-loop : tie.InvT-loop
 Inv-loop case b₀ kind k₀ b k = k ≤ 64

@@ -3,7 +3,6 @@ use Prim.Native.Nat.{_≤_}
 use borrow.Author.Needs.{needs}
 use Rattle.cross_check.proofs.replay.caught_up.Statement.{statement}
 use Rattle.cross_check.proofs.replay.caught_up.Tie as tie
-use Rattle.cross_check.proofs.replay.advanced.Reads as advanced-reads
 
 abbrev Inv-loop : tie.InvT-loop
 Inv-loop place end bytes out₀ r₀ left₀ out r left = left ≤ 66

@@ -3,7 +3,6 @@ use Prim.Native.Nat.{_-_, _≤_}
 use borrow.Author.Needs.{needs}
 use Rattle.cross_check.proofs.rules.fits.Statement.{statement}
 use Rattle.cross_check.proofs.rules.fits.Tie as tie
-use Rattle.cross_check.proofs.rules.most_at.Reads as most-at-reads
 
 abbrev Inv-loop : tie.InvT-loop
 Inv-loop row count ok₀ k₀ ok k = k ≤ 13

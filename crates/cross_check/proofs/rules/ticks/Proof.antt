@@ -3,8 +3,6 @@ use Prim.Native.Nat.{_-_, _≤_}
 use borrow.Author.Needs.{needs}
 use Rattle.cross_check.proofs.rules.ticks.Statement.{statement}
 use Rattle.cross_check.proofs.rules.ticks.Tie as tie
-use Rattle.cross_check.proofs.rules.reading.Reads as reading-reads
-use Rattle.cross_check.proofs.rules.ticked.Reads as ticked-reads
 
 abbrev Inv-loop : tie.InvT-loop
 Inv-loop n stops r₀ k₀ r k = k ≤ n
