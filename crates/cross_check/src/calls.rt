@@ -59,13 +59,13 @@ pub(crate) fn list(case: u64) -> Verdict {
     }
 }
 
-// Up to 700 ticks in one call, and as many in one that stops at a rollover, of a clock that need not be sound.
+// Up to 700 ticks in one call, of a clock that need not be sound.
 pub(crate) fn many_ticks(case: u64) -> Verdict {
     let s = state(case);
     let n = draw(case, 83) % 701;
-    let all = ticks(s, n, false);
+    let a = ticks(s, n);
     Verdict {
-        refusal: all.refusal,
-        same: same_ticks(s, n, all, ticks(s, n, true)),
+        refusal: a.refusal,
+        same: same_ticks(s, n, a),
     }
 }

@@ -4,7 +4,6 @@ use crate::form::Number;
 use crate::replay::Replayed;
 use crate::replay::caught_up;
 use crate::rules::Answer;
-use crate::rules::Ran;
 use crate::rules::State;
 use crate::rules::reading;
 use crate::rules::shown;
@@ -165,11 +164,26 @@ pub(crate) fn same_event(s: State, row: &[u64; 13], a: Answer) -> bool {
     same & same_reading(shown(a, row[0]), e.reading)
 }
 
+// The ranges' ends, the codes and the units that a caller is told.
+fn same_limits() -> bool {
+    let l = clock::state_limits();
+    let t = clock::status_codes();
+    let u = clock::unit_scales();
+    let mut same = (l.seconds == 4294967295) & (l.micros == 999999) & (l.asked == 127999);
+    same = same & (l.phase.lower == -268435456) & (l.phase.upper == 268435456);
+    same = same & (l.offset.lower == -2097135616) & (l.offset.upper == 2097135616);
+    same = same & (l.frequency.lower == -1677721600) & (l.frequency.upper == 1677721600);
+    same = same & (l.constant == 4) & (l.error == 16000000);
+    same = same & (t.ok == 0) & (t.ins == 1) & (t.del == 2) & (t.oop == 3) & (t.bad == 4);
+    same = same & (u.phase == 268435456) & (u.offset == 16384) & (u.frequency == 16777216);
+    same & (u.second == 1000000) & (u.day == 86400)
+}
+
 // What a caller begins with: the fresh clock, the bits of a mode, and the timer's rate with the constants that follow from it.
 pub(crate) fn same_start(s: State) -> bool {
     let m = request::mode_bits();
     let d = clock::device_constants();
-    let mut same = same_clock(s, clock::fresh());
+    let mut same = same_limits() & same_clock(s, clock::fresh());
     same = same & (m.offset == 1) & (m.frequency == 2) & (m.maxerror == 4);
     same = same & (m.esterror == 8) & (m.status == 16) & (m.constant == 32);
     same = same & (d.rate == 256) & (d.tick.0 == 3906) & (d.scale == 64) & (d.divisor == 16);
@@ -177,15 +191,10 @@ pub(crate) fn same_start(s: State) -> bool {
     same & (d.least.0 == -168819712) & (d.most.0 == 303037440)
 }
 
-// Up to n ticks in one call, where the second has answered `all`; and in one that stops at a rollover and tells how many were not accepted,
-// where it has answered `part`.
-pub(crate) fn same_ticks(s: State, n: u64, all: Ran, part: Ran) -> bool {
-    let c = clock_of(s);
-    let o = clock::run_ticks(c, n);
-    let p = clock::ticks_to_rollover(c, n);
-    let mut same = same_byte(all.refusal, o.refusal) & same_clock(all.state, o.clock);
-    same = same & same_byte(part.refusal, p.refusal) & same_clock(part.state, p.clock);
-    same & (part.left == p.left)
+// Up to n ticks in one call, where the second has answered `a`.
+pub(crate) fn same_ticks(s: State, n: u64, a: Answer) -> bool {
+    let o = clock::run_ticks(clock_of(s), n);
+    same_byte(a.refusal, o.refusal) & same_clock(a.state, o.clock)
 }
 
 // The number at `at` of the first `end` bytes.

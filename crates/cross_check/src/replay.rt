@@ -37,14 +37,7 @@ fn event_at(bytes: &[u8; 64], end: usize, at: usize, row: &mut [u64; 13]) -> Cur
 fn answer_of(s: State, row: &[u64; 13]) -> Answer {
     let code = row[0];
     match code {
-        0 => {
-            let r = ticks(s, row[1], false);
-            let state = r.state;
-            Answer {
-                refusal: r.refusal,
-                state: state,
-            }
-        }
+        0 => ticks(s, row[1]),
         _ => step(s, row),
     }
 }

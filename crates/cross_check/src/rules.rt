@@ -291,46 +291,18 @@ pub(crate) fn step(s: State, row: &[u64; 13]) -> Answer {
     }
 }
 
-// Ticks one after the other: the refusal of the last one, or 0; the clock after the accepted ones; how many were not accepted; and whether
-// no more are to be run.
-pub(crate) struct Ran {
-    pub(crate) refusal: u64,
-    pub(crate) state: State,
-    pub(crate) left: u64,
-    pub(crate) over: bool,
-}
-
-// One tick more. Where `stops` is set none follows a rollover, at which alone the microseconds fall.
-fn ticked(r: Ran, stops: bool) -> Ran {
-    let a = tick(r.state);
-    let now = a.state;
-    let accepted = a.refusal == 0;
-    Ran {
-        refusal: a.refusal,
-        state: now,
-        left: minus(r.left, pick(accepted, 1, 0)),
-        over: !accepted | (stops & (now.micros < r.state.micros)),
-    }
-}
-
-// Up to n ticks.
-pub(crate) fn ticks(s: State, n: u64, stops: bool) -> Ran {
-    let told = reading(s);
-    let mut r = Ran {
-        refusal: told.refusal,
-        state: s,
-        left: n,
-        over: told.refusal != 0,
-    };
+// Up to n ticks, one after the other: the refusal of the first that is refused, or 0; and the clock after the accepted ones.
+pub(crate) fn ticks(s: State, n: u64) -> Answer {
+    let mut a = reading(s);
     let mut k: u64 = 0;
     while k < n {
-        if r.over {
-            return r;
+        if a.refusal != 0 {
+            return a;
         }
-        r = ticked(r, stops);
+        a = tick(a.state);
         k += 1;
     }
-    r
+    a
 }
 
 // What an event shows: the state that an accepted reading tells of, else zeros and status 4.

@@ -5,10 +5,10 @@ use Rattle.cross_check.proofs.rules.ticks.Statement.{statement}
 use Rattle.cross_check.proofs.rules.ticks.Tie as tie
 
 abbrev Inv-loop : tie.InvT-loop
-Inv-loop n stops r₀ k₀ r k = k ≤ n
+Inv-loop n a₀ k₀ a k = k ≤ n
 
 abbrev μ-loop : tie.MeasureT-loop
-μ-loop n stops r₀ k₀ r k = n - k
+μ-loop n a₀ k₀ a k = n - k
 
 reading-requires : tie.Need-reading-requires Inv-loop μ-loop
 reading-requires c κs = search needs
@@ -19,8 +19,8 @@ loop-holds c = search needs
 returns : tie.Need-returns Inv-loop μ-loop
 returns c = search needs
 
-ticked-requires : tie.Need-ticked-requires Inv-loop μ-loop
-ticked-requires c κs = search needs
+tick-requires : tie.Need-tick-requires Inv-loop μ-loop
+tick-requires c κs = search needs
 
 add-k : tie.Need-add-k Inv-loop μ-loop
 add-k c = search needs
@@ -43,7 +43,7 @@ ticks-spec =
     reading-requires
     loop-holds
     returns
-    ticked-requires
+    tick-requires
     add-k
     loop-less
     loop-again
