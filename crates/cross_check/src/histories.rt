@@ -8,7 +8,7 @@ use crate::random::draw;
 use crate::replay::Replayed;
 use crate::replay::mask_of;
 use crate::signed::pick;
-use playback::run::Run;
+use playback::Run;
 
 // Mostly up to 600 ticks, once in 8 up to 4,096.
 fn tick_count(case: u64) -> u64 {
@@ -74,13 +74,13 @@ fn same_end(r: Replayed, run: Run, at: usize, room: usize) -> bool {
 // every call is refused, and leaves the run as it was.
 fn same_run(bytes: &[u8], r: Replayed, out: &[u8; 2048], room: usize) -> bool {
     let refusal = pick(room < 30, 14, 0);
-    let mut run = playback::run::start();
+    let mut run = playback::start();
     let mut same = true;
     let mut at: usize = 0;
     let mut left: u64 = 64;
     while 0 < left {
         let mut part = [9u8; 64];
-        let f = playback::run::fill(bytes, run, &mut part[..room % 65]);
+        let f = playback::fill(bytes, run, &mut part[..room % 65]);
         same = same & same_byte(refusal, f.refusal) & same_part(&part, out, at, f.length);
         at = at % 65536 + f.length % 65536;
         run = f.run;

@@ -9,8 +9,6 @@ use Rattle.cross_check.proofs.first.same_byte.Reads as same-byte-reads
 use Rattle.cross_check.proofs.histories.same_end.Reads as same-end-reads
 use Rattle.cross_check.proofs.histories.same_part.Reads as same-part-reads
 use Rattle.cross_check.proofs.signed.pick.Reads as pick-reads
-use Rattle.playback.proofs.run.fill.Reads as fill-reads
-use Rattle.playback.proofs.run.start.Reads as start-reads
 
 abbrev Inv-loop : tie.InvT-loop
 Inv-loop bytes r out room refusal run₀ same₀ at₀ left₀ run same at left = left ≤ 64
