@@ -22,8 +22,8 @@ use clock::PhaseUnits;
 use clock::Reading;
 use event::Event;
 use number::Decoded;
-use playback::run::Filling;
-use playback::run::Run;
+use playback::Filling;
+use playback::Run;
 use request::AskedFrequency;
 use request::AskedOffset;
 use request::Request;
@@ -307,7 +307,7 @@ fn same_run(mine: Replayed, run: Run) -> bool {
 }
 
 pub(crate) fn same_begun(mine: Replayed) -> bool {
-    same_run(mine, playback::run::start())
+    same_run(mine, playback::start())
 }
 
 // One call on a run, which took the second from `before` to where `mine` stands: refused with room for no line, unless nothing is left to
@@ -349,7 +349,7 @@ pub(crate) fn same_replay(bytes: &[u8], head: [u8; 64], from: Replayed, room: us
             place: mine.place,
             ended: mine.over,
         };
-        let f = playback::run::fill(bytes, run, &mut part[..room % 65]);
+        let f = playback::fill(bytes, run, &mut part[..room % 65]);
         let before = mine;
         mine = caught_up(before, f.run.place, f.run.ended, &head, &mut out);
         same = same & same_call(before, mine, room, f);

@@ -6,14 +6,15 @@ use Prim.Native.Nat.{ℕ, _%_}
 use lib.Dec.{eqb}
 use lib.IntN.{ℤ}
 use Rattle.clock.specs.declared.units.AskedMicros.{AskedMicros}
+use Rattle.event.specs.declared.event.Event.the-variants.{Setting, Request, Reading}
 use Rattle.number.specs.Mapping.{unmapped}
 use Rattle.number.specs.Reading.{Found as Number, number, numberAt}
 use Rattle.number.specs.Reading.{refused as noNumber}
-use Rattle.request.specs.Request.{bitSet}
+use Rattle.request.specs.Request.{bitSet, modeBits}
 use Rattle.request.specs.declared.units.AskedOffset.{AskedOffset}
 use Rattle.request.specs.declared.units.AskedFrequency.{AskedFrequency}
 use Rattle.history.specs.declared.Event.{Event}
-use Rattle.history.specs.declared.Event.the-variants.{Ticks, Setting, Request, Print}
+use Rattle.history.specs.declared.Event.the-variants.{Ticks, Call}
 use Rattle.history.specs.declared.Entry.{Entry}
 use Rattle.history.specs.declared.Entry.the-variants as E
 
@@ -57,22 +58,22 @@ unfoldable pub settingAt : List ℕ → ℕ → Found
 settingAt s at =
     then (numberAt s at) (λ seconds n0.
     then (numberAt s n0) (λ micros next.
-    found (Setting seconds (askedMicros micros)) next))
+    found (Call (Setting seconds (askedMicros micros))) next))
 
 -- the field that a bit of the mode selects; a field that is not selected has no bytes and is 0
 unfoldable pub fieldAt : ℕ → ℕ → List ℕ → ℕ → Number
 fieldAt mode bit s at = cond (bitSet mode bit) (numberAt s at) (number 0 at)
 
--- "the selected fields in order of mode bit", for the bits of a mode: 1 offset, 2 frequency, 4 and 8 the errors, 16 status, 32 time constant
+-- "the selected fields in order of mode bit", for the bits of a mode
 abbrev pub fieldsAt : ℕ → ℕ → List ℕ → ℕ → Found
 fieldsAt mode bits s n0 =
-    then (fieldAt bits 1 s n0) (λ offset n1.
-    then (fieldAt bits 2 s n1) (λ frequency n2.
-    then (fieldAt bits 4 s n2) (λ maxerror n3.
-    then (fieldAt bits 8 s n3) (λ esterror n4.
-    then (fieldAt bits 16 s n4) (λ status n5.
-    then (fieldAt bits 32 s n5) (λ constant next.
-    found (Request (record {
+    then (fieldAt bits (modeBits .offset) s n0) (λ offset n1.
+    then (fieldAt bits (modeBits .frequency) s n1) (λ frequency n2.
+    then (fieldAt bits (modeBits .maxerror) s n2) (λ maxerror n3.
+    then (fieldAt bits (modeBits .esterror) s n3) (λ esterror n4.
+    then (fieldAt bits (modeBits .status) s n4) (λ status n5.
+    then (fieldAt bits (modeBits .constant) s n5) (λ constant next.
+    found (Call (Request (record {
       mode = mode;
       offset = offsetAsked offset;
       frequency = frequencyAsked frequency;
@@ -80,7 +81,7 @@ fieldsAt mode bits s n0 =
       esterror = askedMicros esterror;
       status = status;
       constant = constant;
-    })) next))))))
+    }))) next))))))
 
 -- "`2 mode` and the selected fields .. (a mode above 63 brings the fields of mode mod 64 ..)": the request keeps the mode as it was given
 unfoldable pub requestAt : List ℕ → ℕ → Found
@@ -92,7 +93,7 @@ argumentsAt code s at =
     cond (eqb code 0) (ticksAt s at)
     (cond (eqb code 1) (settingAt s at)
     (cond (eqb code 2) (requestAt s at)
-    (cond (eqb code 3) (found Print at)
+    (cond (eqb code 3) (found (Call Reading) at)
     (refused 12))))
 
 -- the event at place `at` of s; where s ends before the event does, 10 "bytes end inside a record or event"

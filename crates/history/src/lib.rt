@@ -2,7 +2,8 @@
 ghost use mathlib.Core.Path.{_≡_};
 ghost use Prim.Native.Nat.{_%_, _<_};
 ghost use Rattle.number.specs.Reading.{told as Number·told};
-ghost use Rattle.history.specs.Event.{told, offsetAsked, frequencyAsked, fieldAt, ticksAt, settingAt, requestAt, eventAt};
+ghost use Rattle.history.specs.declared.Event.the-variants.{Call};
+ghost use Rattle.history.specs.Event.{found, told, offsetAsked, frequencyAsked, fieldAt, ticksAt, settingAt, requestAt, eventAt};
 ghost use Rattle.history.specs.Inner.{refusedAs};
 use clock::AskedMicros;
 use number::Decoded;
@@ -21,11 +22,8 @@ use request::Request;
 pub enum Event {
     // so many single ticks, up to the first refusal
     Ticks(u64),
-    // the seconds and the microseconds to set
-    Setting(u64, AskedMicros),
-    // the fields that the mode does not select are 0
-    Request(Request),
-    Print,
+    // a setting, a request whose fields that the mode does not select are 0, or a reading, which is a print
+    Call(event::Event),
 }
 
 // What stands at a place: an event, with the place after it; or the refusal, 10, 11 or 12.
@@ -34,13 +32,25 @@ pub enum Entry {
     Refused(u8),
 }
 
+// Refusal 12: an unknown event code.
+const UNKNOWN: u8 = 12;
+
 // The refusal of a number ends the reading of its event.
 fn refusal_of(d: Decoded) -> Entry
     ensures { λ r. ⌜ told r ≡ refusedAs d ⌝ }
 {
     match d {
         Decoded::Refused(n) => Entry::Refused(n),
-        Decoded::Value { value: _, next: _ } => Entry::Refused(0),
+        Decoded::Value { value: _, next: _ } => Entry::Refused(UNKNOWN),
+    }
+}
+
+fn called(call: event::Event, next: usize) -> Entry
+    ensures { λ r. ⌜ told r ≡ found (Call call) next ⌝ }
+{
+    Entry::Whole {
+        event: Event::Call(call),
+        next: next,
     }
 }
 
@@ -71,10 +81,7 @@ fn setting_at(bytes: &[u8], at: usize) -> Entry
         return refusal_of(d1);
     };
     let micros = AskedMicros(value);
-    Entry::Whole {
-        event: Event::Setting(seconds, micros),
-        next: next,
-    }
+    called(event::Event::Setting(seconds, micros), next)
 }
 
 // A mode above 63 brings the fields of mode mod 64, before the request is refused for it.
@@ -154,10 +161,7 @@ fn request_at(bytes: &[u8], at: usize) -> Entry
         status: status,
         constant: constant,
     };
-    Entry::Whole {
-        event: Event::Request(request),
-        next: next,
-    }
+    called(event::Event::Request(request), next)
 }
 
 // The event that starts at `at`.
@@ -172,10 +176,7 @@ pub fn read(bytes: &[u8], at: usize) -> Entry
         0 => ticks_at(bytes, next),
         1 => setting_at(bytes, next),
         2 => request_at(bytes, next),
-        3 => Entry::Whole {
-            event: Event::Print,
-            next: next,
-        },
-        _ => Entry::Refused(12),
+        3 => called(event::Event::Reading, next),
+        _ => Entry::Refused(UNKNOWN),
     }
 }

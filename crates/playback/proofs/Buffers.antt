@@ -1,11 +1,11 @@
 -- Texts that are put into a buffer one after the other.
 use mathlib.Core.Path.{_≡_, refl, sym, _∙_, ap}
-use mathlib.Core.List.{List, [], _∷_, _++_, append-assoc}
-use Prim.Native.Nat.{ℕ, suc, _+_, _<_, _≤_}
-use native.Mathlib.Numerals.{add-one}
+use mathlib.Core.List.{List, [], _∷_, _++_, append-assoc, append-nil}
+use Prim.Native.Nat.{ℕ, _+_, _-_, _≤_}
 use native.Mathlib.Omega.{arith}
-use lib.ListN.{length, take, drop, set, getD, length-append, drop-of-length-le}
-use lib.Seq.{sets, sets-eq, length-sets, drop-cons, drop-drop, drop-at, take-at, length-take-le, drop-append-seam}
+use lib.ListN.{length, take, drop, set, length-append, length-drop, drop-of-length-le}
+use lib.Seq.{sets, sets-eq, length-sets, take-all, drop-drop, drop-at, take-at, length-take-le, drop-append-seam}
+use borrow.Rule.Slice.PartMut.{midOf, putMid}
 use Rattle.number.proofs.Lists.{sets-append}
 use Rattle.playback.specs.Inner.{Puts}
 
@@ -30,16 +30,23 @@ puts-as e a = rw (e) at a
 pub puts-length : {ws buf end : List ℕ} {at q : ℕ} → Puts ws buf at end q → length end ≡ length buf
 puts-length {ws} {buf} {end} {at} a = ap length (a .stores) ∙ length-sets buf at ws
 
--- the rest of a text, by what stands at a place of it
-pub sets-rest : (buf : List ℕ) (at : ℕ) (text : List ℕ) (i : ℕ) → i < length text
-    → sets buf (at + i) (drop i text) ≡ sets (set buf (at + i) (getD text i 0)) (at + (i + 1)) (drop (i + 1) text)
-sets-rest buf at text i h =
-    ap (sets buf (at + i)) (drop-cons text i 0 h)
-    ∙ ap (λ (k : ℕ). sets (set buf (at + i) (getD text i 0)) k (drop (suc i) text)) (omega arith)
-    ∙ ap (λ (k : ℕ). sets (set buf (at + i) (getD text i 0)) (at + (i + 1)) (drop k text)) (sym (add-one i))
+-- a text that was copied into the part of the buffer from a place on
+module _ (ws buf : List ℕ) (at : ℕ) (room : at + length ws ≤ length buf) where
+  whole-part : midOf at (length buf - at) buf ≡ drop at buf
+  whole-part = take-all (length buf - at) (drop at buf) (simp length-drop (omega arith))
 
-pub sets-end : (buf : List ℕ) (at : ℕ) (text : List ℕ) (i : ℕ) → length text ≤ i → sets buf (at + i) (drop i text) ≡ buf
-sets-end buf at text i h = ap (sets buf (at + i)) (drop-of-length-le text h)
+  none-after : drop (length buf - at) (drop at buf) ≡ []
+  none-after = drop-of-length-le (drop at buf) {i = length buf - at} (simp length-drop (omega arith))
+
+  pub puts-part : {mid : List ℕ} {q : ℕ} → mid ≡ ws ++ drop (length ws) (midOf at (length buf - at) buf) → q ≡ at + length ws
+      → Puts ws buf at (putMid at (length buf - at) buf mid) q
+  puts-part copied end =
+      record {
+        stores =
+            rw (none-after, copied, whole-part, drop-drop (length ws) at buf)
+            (simp append-nil (sym (append-assoc (take at buf) ws (drop (at + length ws) buf)) ∙ sym (sets-eq ws buf at room)));
+        place = end;
+      }
 
 module _ {ws buf end : List ℕ} {at q : ℕ} (a : Puts ws buf at end q) (room : at + length ws ≤ length buf) where
   spread : end ≡ take at buf ++ (ws ++ drop (at + length ws) buf)

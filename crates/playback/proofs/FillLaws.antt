@@ -1,113 +1,149 @@
--- Steps of a run, one after the other: what has been put so far, and what remains.
+-- A buffer that is filled by steps of a run, one after the other.
 use mathlib.Core.Path.{_≡_, refl, sym, _∙_, ap}
-use mathlib.Core.Bool.{Bool, true, false, not, cond, _&&_}
-use mathlib.Core.List.{List, append-assoc}
+use mathlib.Core.Bool.{Bool, true, false, not, _&&_}
+use mathlib.Core.List.{List}
 use mathlib.Core.Logic.{_⊎_, inl, inr, ⊎-elim}
-use Prim.Native.Nat.{ℕ, suc, _+_, _-_, _<_, _≤_}
+use Prim.Native.Nat.{ℕ, zero, suc, _+_, _-_, _<_, _≤_}
 use native.Mathlib.Omega.{arith}
 use lib.Dec.{leb}
 use lib.ListN.{length, take, drop}
-use lib.Seq.{drop-drop}
-use borrow.Author.Tests.{lt-ltb, le-ltb, le-leb}
-use Rattle.playback.specs.Run.{before, remaining}
-use Rattle.playback.specs.Filling.{Onward, longestLine, Fills}
-use Rattle.playback.specs.Inner.{Steps}
+use lib.Seq.{drop-drop, length-take-le}
+use borrow.Author.Tests.{lt-ltb, le-ltb, leb-true, leb-false}
+use Rattle.playback.specs.Run.{Advanced, step, runAfter, linesOf}
+use Rattle.playback.specs.Filling.{longestLine, fillRefusal, GoesOn, Fills}
+use Rattle.playback.specs.Inner.{Puts, Steps}
 use Rattle.playback.specs.declared.run.Run.{Run}
 use Rattle.playback.specs.declared.run.Step.{Step}
+use Rattle.playback.specs.declared.run.Filling.{Filling}
 use Rattle.playback.proofs.Buffers.{puts-take, puts-drop, puts-length}
+use Rattle.playback.proofs.RunLaws.{run-more, lines-more, left, left-less, steps-less}
 
--- what is left to run: the bytes, and one for the end
-unfoldable pub left : List ℕ → Run → ℕ
-left s r = cond (r .ended) 0 (suc (length s - r .place))
+-- the loop does not go on: the run has ended, or there is no room
+halts : (b c : Bool) → (not b && c) ≡ false → (b ≡ true) ⊎ (c ≡ false)
+halts true c t = inl refl
+halts false c t = inr t
 
-at-most : (b : Bool) (n : ℕ) → cond b 0 n ≤ n
-at-most true n = omega arith
-at-most false n = omega arith
-
--- with every step that goes onward less is left
-pub onward-less : (s : List ℕ) (now next : Run) → now .ended ≡ false → Onward s (now .place) next → left s next < left s now
-unfolding left
-onward-less s now next going (inl t) = simp (going, t) (omega arith)
-onward-less s now next going (inr h) = simp going (omega (arith, h .0, h .1, at-most (next .ended) (suc (length s - next .place))))
-
--- a loop that goes on: the run has not ended, and there is room for one more line
-pub goes-on : (b c : Bool) → (not b && c) ≡ true → (b ≡ false) × (c ≡ true)
-goes-on true c t = absurd (let w : _≡_ {A = ℕ} 0 1 = cc in omega arith)
-goes-on false c t = (refl, t)
-
--- a loop that ended with room for one more line
-ended-by : (b c : Bool) → c ≡ true → (not b && c) ≡ false → b ≡ true
-ended-by true c e t = refl
-ended-by false c e t = sym t ∙ e
+-- a step by what it leads to and what it prints
+pub stepped : {s : List ℕ} {run : Run} {buf buf′ : List ℕ} {at q : ℕ} {r : Step} {a : Advanced} → step s run ≡ a → r ≡ record { run = a .run; at = q }
+    → Puts (a .line) buf at buf′ q → length (a .line) ≤ longestLine → Steps s run buf at buf′ r
+stepped e i p l = rw (i) (record { line = rw (e) p; small = rw (e) l; stands = rw (e) })
 
 module _ (s : List ℕ) (run : Run) (buf : List ℕ) where
-  -- the run stands at `now`, and the first `at` bytes of the buffer `out` are what was put
+  -- after `steps` steps the run stands at `now`, and the first `at` bytes of the buffer `out` are their lines
   pub record Put (out : List ℕ) (now : Run) (at : ℕ) : Type 0 where
-    pub output : remaining s run ≡ before (take at out) (remaining s now)
+    pub steps : ℕ
+    pub onward : (k : ℕ) → k < steps → GoesOn s run (length buf) k
+    pub stands : now ≡ runAfter steps s run
+    pub written : take at out ≡ linesOf steps s run
     pub later : drop at out ≡ drop at buf
     pub same : length out ≡ length buf
     pub within : at ≤ length buf
-    pub onward : ((now ≡ run) × (at ≡ 0)) ⊎ Onward s (run .place) now
 
   pub put-none : Put buf run 0
-  put-none = record { output = refl; later = refl; same = refl; within = omega arith; onward = inl (refl, refl) }
-
-  further : (now next : Run) (at : ℕ) → now .ended ≡ false → ((now ≡ run) × (at ≡ 0)) ⊎ Onward s (run .place) now → Onward s (now .place) next
-      → Onward s (run .place) next
-  further now next at g (inl e) (inl t) = inl t
-  further now next at g (inl e) (inr h) = let k : now .place ≡ run .place = ap (λ (r : Run). r .place) (e .0) in inr (omega (arith, h .0, k), h .1)
-  further now next at g (inr (inl t)) h = absurd (let w : _≡_ {A = ℕ} 0 1 = cc in omega arith)
-  further now next at g (inr (inr h)) (inl t) = inl t
-  further now next at g (inr (inr h)) (inr k) = inr (omega (arith, h .0, k .0), k .1)
+  unfolding runAfter linesOf
+  put-none =
+      record { steps = 0; onward = λ k h. absurd (omega arith); stands = refl; written = refl; later = refl; same = refl; within = omega arith }
 
   module _ {out out′ : List ℕ} {now : Run} {at : ℕ} {r : Step} (going : now .ended ≡ false) (p : Put out now at) (x : Steps s now out at out′ r)
       (room : at + longestLine ≤ length buf) where
-    fits : at + length (x .ws) ≤ length out
+    fits : at + length (step s now .line) ≤ length out
     fits = omega (arith, p .same, x .small)
+
+    -- the run goes on after the steps so far
+    goes : GoesOn s run (length buf) (p .steps)
+    goes =
+        record {
+          going = ap (λ (r : Run). r .ended) (sym (p .stands)) ∙ going;
+          enough = omega (arith, ap length (p .written), length-take-le at out (omega (arith, p .same, p .within)));
+        }
+
+    -- and after one more
+    earlier : (k : ℕ) → k < suc (p .steps) → (b : Bool) → leb (p .steps) k ≡ b → GoesOn s run (length buf) k
+    earlier k h true t = let e : p .steps ≡ k = omega (arith, leb-true (p .steps) k t) in rw (e) at goes
+    earlier k h false t = p .onward k (leb-false _ _ t)
 
     pub put-step : Put out′ (r .run) (r .at)
     put-step =
         record {
-          output =
-              p .output
-              ∙ ap (before (take at out)) (x .output)
-              ∙ ap (λ (l : List ℕ). record { output = l; clock = remaining s (r .run) .clock }) (sym (append-assoc (take at out) (x .ws) (remaining s (r .run) .output)))
-              ∙ ap (λ (l : List ℕ). before l (remaining s (r .run))) (sym (puts-take (x .puts) fits));
+          steps = suc (p .steps);
+          onward = λ k h. earlier k h (leb (p .steps) k) refl;
+          stands = x .stands ∙ ap (λ (r : Run). step s r .run) (p .stands) ∙ sym (run-more s (p .steps) run);
+          written = puts-take (x .line) fits ∙ rw (p .written, p .stands, lines-more s (p .steps) run);
           later =
-              puts-drop (x .puts) fits
-              ∙ ap (λ (k : ℕ). drop k out) (x .puts .place)
-              ∙ sym (drop-drop (length (x .ws)) at out)
-              ∙ ap (drop (length (x .ws))) (p .later)
-              ∙ drop-drop (length (x .ws)) at buf
-              ∙ ap (λ (k : ℕ). drop k buf) (sym (x .puts .place));
-          same = puts-length (x .puts) ∙ p .same;
-          within = omega (arith, x .puts .place, x .small);
-          onward = inr (further now (r .run) at going (p .onward) (x .onward));
+              puts-drop (x .line) fits
+              ∙ ap (λ (k : ℕ). drop k out) (x .line .place)
+              ∙ sym (drop-drop (length (step s now .line)) at out)
+              ∙ ap (drop (length (step s now .line))) (p .later)
+              ∙ drop-drop (length (step s now .line)) at buf
+              ∙ ap (λ (k : ℕ). drop k buf) (sym (x .line .place));
+          same = puts-length (x .line) ∙ p .same;
+          within = omega (arith, x .line .place, x .small);
         }
 
-    pub left-less : left s (r .run) < left s now
-    left-less = onward-less s now (r .run) going (x .onward)
+    pub less-left : left s (r .run) < left s now
+    less-left = rw (x .stands) (left-less s now going)
 
   -- the loop ended: the run did, or there is no room for one more line
-  pub put-all : {out : List ℕ} {now : Run} {at : ℕ} (last : ℕ) → Put out now at → longestLine ≤ length buf → (not (now .ended) && leb at last) ≡ false
-      → Fills s run buf out (record { refusal = 0; run = now; length = at })
-  put-all {out} {now} {at} last p l t =
+  by-halt : (now : Run) (at : ℕ) → longestLine ≤ length buf → (now .ended ≡ true) ⊎ (leb at (length buf - longestLine) ≡ false)
+      → (now .ended ≡ true) ⊎ (length buf < at + longestLine)
+  by-halt now at l (inl t) = inl t
+  by-halt now at l (inr t) = inr (omega (arith, leb-false at (length buf - longestLine) t))
+
+  pub put-all : {out : List ℕ} {now : Run} {at : ℕ} → run .ended ≡ false → longestLine ≤ length buf → Put out now at
+      → (not (now .ended) && leb at (length buf - longestLine)) ≡ false → Fills s run buf out (record { refusal = 0; run = now; length = at })
+  put-all {out} {now} {at} going l p t =
+      let w : at ≤ length out = omega (arith, p .same, p .within) in
       record {
-        refusal = simp (le-ltb _ _ l);
-        unchanged = λ h. absurd (omega arith);
-        output = p .output;
-        within = p .within;
+        refusal = simp (going, le-ltb _ _ l);
+        steps = p .steps;
+        onward = p .onward;
+        stopped = by-halt now at l (halts (now .ended) _ t);
+        stands = p .stands;
+        written = p .written;
         later = p .later;
-        onward = λ _. ⊎-elim (λ e. inl (ended-by (now .ended) (leb at last) (le-leb at last (omega (arith, e .1))) t)) (λ o. o) (p .onward);
+        same = p .same;
+        within = w;
+        part = sym (length-take-le at out w);
       }
 
-  pub put-short : length buf < longestLine → Fills s run buf buf (record { refusal = 14; run = run; length = 0 })
-  put-short h =
+  -- no step is made
+  none-made : (n : ℕ) → n ≡ fillRefusal run (length buf) → (run .ended ≡ true) ⊎ (length buf < longestLine)
+      → Fills s run buf buf (record { refusal = n; run = run; length = 0 })
+  unfolding runAfter linesOf
+  none-made n e h =
       record {
-        refusal = simp (lt-ltb _ _ h);
-        unchanged = λ _. (refl, refl);
-        output = refl;
-        within = omega arith;
+        refusal = e;
+        steps = 0;
+        onward = λ k h. absurd (omega arith);
+        stopped = h;
+        stands = refl;
+        written = refl;
         later = refl;
-        onward = λ l. absurd (omega arith);
+        same = refl;
+        within = omega arith;
+        part = refl;
       }
+
+  pub put-ended : run .ended ≡ true → Fills s run buf buf (record { refusal = 0; run = run; length = 0 })
+  put-ended t = none-made 0 (simp t) (inl t)
+
+  pub put-short : run .ended ≡ false → length buf < longestLine → Fills s run buf buf (record { refusal = 14; run = run; length = 0 })
+  put-short going h = none-made 14 (simp (going, lt-ltb _ _ h)) (inr h)
+
+-- a call with room for a line, on a run that has not ended
+module _ (s : List ℕ) {run : Run} {buf buf′ : List ℕ} {r : Filling} (l : longestLine ≤ length buf) (going : run .ended ≡ false) (f : Fills s run buf buf′ r) where
+  not-none : (k : ℕ) → f .steps ≡ k → 0 < k
+  unfolding runAfter linesOf
+  not-none zero e =
+      let stays : r .run ≡ run = f .stands ∙ ap (λ (k : ℕ). runAfter k s run) e in
+      let empty : r .length ≡ 0 = f .part ∙ ap length (f .written ∙ ap (λ (k : ℕ). linesOf k s run) e) in
+      absurd (⊎-elim (λ t. let w : _≡_ {A = ℕ} 0 1 = cc in omega arith) (λ h. omega arith) (f .stopped))
+  not-none (suc k) e = omega arith
+
+  -- makes a step
+  pub some-steps : 0 < f .steps
+  some-steps = not-none (f .steps) refl
+
+  -- so that less is left
+  pub filled-less : left s (r .run) < left s run
+  filled-less = rw (f .stands) (steps-less s (f .steps) run going some-steps)

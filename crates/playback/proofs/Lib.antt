@@ -1,8 +1,8 @@
 pub mod Decimal
 pub mod Buffers
 pub mod LineLaws
-pub mod Remaining
-pub mod StepLaws
+pub mod RunLaws
 pub mod FillLaws
 pub mod Examples
-pub mod Whole
+pub mod Repeated
+pub mod Calls

@@ -1,55 +1,71 @@
 -- Which line an event has, and that no line is longer than a print's 30 bytes.
-use mathlib.Core.Path.{_≡_, refl, sym, _∙_, ap}
-use mathlib.Core.Bool.{Bool, true, false, not}
-use mathlib.Core.List.{List, [], _∷_, _++_, append-nil, append-assoc}
-use Prim.Native.Nat.{ℕ, _+_, _/_, _<_, _≤_}
+use mathlib.Core.Path.{_≡_, refl, sym, _∙_}
+use mathlib.Core.Bool.{Bool, true, false, not, cond, _&&_}
+use mathlib.Core.List.{List, [], _∷_, _++_, append-assoc}
+use Prim.Native.Nat.{ℕ, _/_, _<_, _≤_}
 use native.Mathlib.Omega.{arith}
-use lib.ListN.{length, length-append, drop-of-length-le}
-use borrow.Author.Tests.{eq-eqb, ne-eqb, le-ltb}
+use lib.Dec.{eqb}
+use lib.ListN.{length, drop, length-append}
+use borrow.Author.Tests.{eq-eqb, le-ltb}
 use Rattle.clock.specs.State.{inRange}
 use Rattle.clock.specs.Reading.{readingOf, readingRefusal}
 use Rattle.clock.specs.Refusal.{refuse}
 use Rattle.clock.specs.declared.state.Clock.{Clock}
-use Rattle.clock.specs.declared.outcome.Outcome.{Outcome}
 use Rattle.clock.proofs.Ok.{ok}
+use Rattle.event.specs.Event.{stepOf}
 use Rattle.label.specs.Label.{digit, isSixty, clockLabel}
 use Rattle.label.specs.Writing.{writeRefusal, writtenTo}
 use Rattle.label.proofs.Room.{twenty}
+use Rattle.event.specs.declared.event.Event as call
+use Rattle.event.specs.declared.event.Event.the-variants.{Tick, Setting, Request, Reading}
 use Rattle.history.specs.declared.Event.{Event}
-use Rattle.history.specs.declared.Event.the-variants.{Ticks, Setting, Request, Print}
-use Rattle.playback.specs.Lines.{refusedLine, logLine, printLine}
-use Rattle.playback.specs.Event.{outcomeOf, printed, lineOf}
-use Rattle.playback.specs.Inner.{isPrint}
+use Rattle.history.specs.declared.Event.the-variants.{Ticks, Call}
+use Rattle.clock.specs.Ticks.{ticksOf}
+use Rattle.playback.specs.Lines.{space, newline, refusedLine, logLine, printLine}
+use Rattle.playback.specs.Event.{outcomeOf, printedBy, printed, lineOf}
+use Rattle.playback.specs.Run.{longestHistory}
+use Rattle.playback.specs.Filling.{longestLine}
+use Rattle.playback.specs.Inner.{isReading, refusalLine}
 use Rattle.playback.proofs.Decimal.{decimal-last, length-last, decimal-length}
 
 -- ---- lengths
 
-pub refused-small : (n : ℕ) → n < 256 → length (refusedLine n) ≤ 30
+refused-small : (n : ℕ) → n < 256 → length (refusedLine n) ≤ longestLine
 unfolding refusedLine
 refused-small n h = simp length-append (omega (arith, decimal-length 2 n (omega arith)))
 
-pub log-small : (n p : ℕ) → n < 256 → p ≤ 65536 → length (logLine n p) ≤ 30
+by-refusal : (n : ℕ) → n < 256 → (b : Bool) → length (cond b [] (refusedLine n)) ≤ longestLine
+by-refusal n h true = omega arith
+by-refusal n h false = refused-small n h
+
+pub refusal-small : (n : ℕ) → n < 256 → length (refusalLine n) ≤ longestLine
+unfolding refusalLine
+refusal-small n h = by-refusal n h (eqb n 0)
+
+pub log-small : (n p : ℕ) → n < 256 → p ≤ longestHistory → length (logLine n p) ≤ longestLine
 unfolding logLine
 log-small n p h l = simp length-append (omega (arith, decimal-length 2 n (omega arith), decimal-length 4 p (omega arith)))
+
+pub label-length : (c : Clock) → length (clockLabel c) ≡ 20
+label-length c = twenty (c .seconds) (isSixty c)
 
 one-digit : (c : Clock) → inRange c ≡ true → c .status < 10
 one-digit c s = let k : c .status ≤ 4 = ok c s .status in omega arith
 
-pub print-small : (c : Clock) → inRange c ≡ true → length (printLine c) ≤ 30
+pub print-small : (c : Clock) → inRange c ≡ true → length (printLine c) ≤ longestLine
 unfolding printLine
-print-small c s = simp length-append (omega (arith, twenty (c .seconds) (isSixty c), length-last (c .status) (one-digit c s)))
+print-small c s = simp length-append (omega (arith, label-length c, length-last (c .status) (one-digit c s)))
 
 -- ---- the parts of a print
 
-pub label-written : (c : Clock) (buf : List ℕ) → inRange c ≡ true → length buf ≡ 20 → writtenTo c buf ≡ clockLabel c
+pub label-written : (c : Clock) (buf : List ℕ) → inRange c ≡ true → 20 ≤ length buf → writtenTo c buf ≡ clockLabel c ++ drop (length (clockLabel c)) buf
 unfolding writtenTo writeRefusal
-label-written c buf ok l =
-    simp (ok, le-ltb (length buf) 20 (omega arith)) (ap (λ (x : List ℕ). clockLabel c ++ x) (drop-of-length-le buf {i = 20} (omega arith)) ∙ append-nil (clockLabel c))
+label-written c buf ok l = rw (label-length c) (simp (ok, le-ltb (length buf) 20 l))
 
 -- the label, and then ten bytes
 pub print-parts : (c : Clock) → inRange c ≡ true
-    → clockLabel c ++ (32 ∷ digit (c .micros .0 / 100000) ∷ digit (c .micros .0 / 10000) ∷ digit (c .micros .0 / 1000) ∷ digit (c .micros .0 / 100)
-    ∷ digit (c .micros .0 / 10) ∷ digit (c .micros .0) ∷ 32 ∷ digit (c .status) ∷ 10 ∷ []) ≡ printLine c
+    → clockLabel c ++ (space ∷ digit (c .micros .0 / 100000) ∷ digit (c .micros .0 / 10000) ∷ digit (c .micros .0 / 1000) ∷ digit (c .micros .0 / 100)
+    ∷ digit (c .micros .0 / 10) ∷ digit (c .micros .0) ∷ space ∷ digit (c .status) ∷ newline ∷ []) ≡ printLine c
 unfolding printLine
 print-parts c s = rw (decimal-last (c .status) (one-digit c s)) (simp append-assoc)
 
@@ -59,42 +75,38 @@ accepted : (b : Bool) → refuse (not b) 1 0 ≡ 0 → b ≡ true
 accepted true e = refl
 accepted false e = absurd (omega (arith, e))
 
-pub print-sound : (c : Clock) (e : Event) → isPrint e ≡ true → outcomeOf c e .refusal ≡ 0 → inRange c ≡ true
-unfolding outcomeOf readingOf readingRefusal
-print-sound c (Ticks n) t z = absurd (let w : _≡_ {A = ℕ} 0 1 = cc in omega arith)
-print-sound c (Setting s u) t z = absurd (let w : _≡_ {A = ℕ} 0 1 = cc in omega arith)
-print-sound c (Request r) t z = absurd (let w : _≡_ {A = ℕ} 0 1 = cc in omega arith)
-print-sound c Print t z = accepted (inRange c) z
+pub reading-sound : (c : Clock) (e : call.Event) → isReading e ≡ true → stepOf c e .refusal ≡ 0 → inRange c ≡ true
+unfolding readingOf readingRefusal
+reading-sound c Tick t z = absurd (let w : _≡_ {A = ℕ} 0 1 = cc in omega arith)
+reading-sound c (Setting s u) t z = absurd (let w : _≡_ {A = ℕ} 0 1 = cc in omega arith)
+reading-sound c (Request r) t z = absurd (let w : _≡_ {A = ℕ} 0 1 = cc in omega arith)
+reading-sound c Reading t z = accepted (inRange c) z
 
-printed-print : (c : Clock) (e : Event) → isPrint e ≡ true → printed c e ≡ printLine c
-unfolding printed
-printed-print c (Ticks n) t = absurd (let w : _≡_ {A = ℕ} 0 1 = cc in omega arith)
-printed-print c (Setting s u) t = absurd (let w : _≡_ {A = ℕ} 0 1 = cc in omega arith)
-printed-print c (Request r) t = absurd (let w : _≡_ {A = ℕ} 0 1 = cc in omega arith)
-printed-print c Print t = refl
+-- what an accepted call prints
+by-call : (c : Clock) (e : call.Event) → printedBy c e ≡ cond (isReading e) (printLine c) []
+unfolding printedBy
+by-call c Tick = refl
+by-call c (Setting s u) = refl
+by-call c (Request r) = refl
+by-call c Reading = refl
 
-printed-nothing : (c : Clock) (e : Event) → isPrint e ≡ false → printed c e ≡ []
-unfolding printed
-printed-nothing c (Ticks n) t = refl
-printed-nothing c (Setting s u) t = refl
-printed-nothing c (Request r) t = refl
-printed-nothing c Print t = absurd (let w : _≡_ {A = ℕ} 0 1 = cc in omega arith)
+-- the line of many ticks
+pub line-ticks : (c : Clock) (n : ℕ) → refusalLine (ticksOf n c .refusal) ≡ lineOf c (Ticks n)
+unfolding refusalLine lineOf outcomeOf printed
+line-ticks c n = refl
 
-module _ (c : Clock) (e : Event) (o : Outcome) (is : o ≡ outcomeOf c e) where
-  pub line-refused : (o .refusal ≡ 0 → ⊥) → refusedLine (o .refusal) ≡ lineOf c e
-  unfolding lineOf
-  line-refused h = rw (← is) (simp (ne-eqb (o .refusal) 0 h))
+-- the line of a call that is an accepted reading, and of any other
+module _ (c : Clock) (e : call.Event) where
+  by-reading : (b z : Bool) (line : List ℕ) → printedBy c e ≡ cond b (printLine c) [] → (b && z) ≡ false → cond z [] line ≡ cond z (printedBy c e) line
+  by-reading true true line p t = absurd (let w : _≡_ {A = ℕ} 0 1 = cc in omega arith)
+  by-reading true false line p t = refl
+  by-reading false true line p t = sym p
+  by-reading false false line p t = refl
 
-  module _ (z : o .refusal ≡ 0) where
-    line-accepted : lineOf c e ≡ printed c e
-    unfolding lineOf
-    line-accepted = rw (← is) (simp (eq-eqb (o .refusal) 0 z))
+  pub line-print : isReading e ≡ true → stepOf c e .refusal ≡ 0 → printLine c ≡ lineOf c (Call e)
+  unfolding lineOf outcomeOf printed
+  line-print t z = simp (eq-eqb _ _ z) (sym (by-call c e ∙ simp t))
 
-    pub line-print : isPrint e ≡ true → printLine c ≡ lineOf c e
-    line-print t = sym (line-accepted ∙ printed-print c e t)
-
-    pub line-nothing : isPrint e ≡ false → [] ≡ lineOf c e
-    line-nothing t = sym (line-accepted ∙ printed-nothing c e t)
-
-    pub clock-sound : isPrint e ≡ true → inRange c ≡ true
-    clock-sound t = print-sound c e t (ap (λ (x : Outcome). x .refusal) (sym is) ∙ z)
+  pub line-call : (isReading e && eqb (stepOf c e .refusal) 0) ≡ false → refusalLine (stepOf c e .refusal) ≡ lineOf c (Call e)
+  unfolding refusalLine lineOf outcomeOf printed
+  line-call t = by-reading (isReading e) (eqb (stepOf c e .refusal) 0) _ (by-call c e) t

@@ -3,29 +3,37 @@ use mathlib.Core.Bool.{cond}
 use mathlib.Core.List.{List, []}
 use Prim.Native.Nat.{ℕ}
 use lib.Dec.{eqb}
-use Rattle.clock.specs.Setting.{settingOf}
-use Rattle.clock.specs.Reading.{readingOf}
 use Rattle.clock.specs.declared.state.Clock.{Clock}
 use Rattle.clock.specs.declared.outcome.Outcome.{Outcome}
-use Rattle.request.specs.Request.{requestOf}
+use Rattle.event.specs.Event.{stepOf}
+use Rattle.event.specs.declared.event.Event as call
+use Rattle.event.specs.declared.event.Event.the-variants.{Tick, Setting, Request, Reading}
+use Rattle.event.specs.declared.event.Stepped.{Stepped}
 use Rattle.history.specs.declared.Event.{Event}
-use Rattle.history.specs.declared.Event.the-variants.{Ticks, Setting, Request, Print}
+use Rattle.history.specs.declared.Event.the-variants.{Ticks, Call}
 use Rattle.clock.specs.Ticks.{ticksOf}
 use Rattle.playback.specs.Lines.{refusedLine, printLine}
 
--- the refusal of an event, or 0, and the clock after it; a print is a reading, which does not change the clock
+-- the refusal of a call, or 0, and the clock after it
+abbrev pub outcomeWith : Stepped → Outcome
+outcomeWith a = record { refusal = a .refusal; clock = a .clock }
+
+-- the refusal of an event, or 0, and the clock after it
 unfoldable pub outcomeOf : Clock → Event → Outcome
 outcomeOf c (Ticks n) = ticksOf n c
-outcomeOf c (Setting s u) = settingOf c s u
-outcomeOf c (Request r) = requestOf c r
-outcomeOf c Print = record { refusal = readingOf c .refusal; clock = c }
+outcomeOf c (Call e) = outcomeWith (stepOf c e)
 
--- what an accepted event prints: nothing, but for a print
+-- what an accepted call prints: nothing, but for a reading, which is the history's print
+unfoldable pub printedBy : Clock → call.Event → List ℕ
+printedBy c Tick = []
+printedBy c (Setting s u) = []
+printedBy c (Request r) = []
+printedBy c Reading = printLine c
+
+-- what an accepted event prints
 unfoldable pub printed : Clock → Event → List ℕ
 printed c (Ticks n) = []
-printed c (Setting s u) = []
-printed c (Request r) = []
-printed c Print = printLine c
+printed c (Call e) = printedBy c e
 
 -- "A refused event prints the line `refused N`"
 unfoldable pub lineOf : Clock → Event → List ℕ

@@ -1,32 +1,45 @@
--- What a call that goes on with a run promises, however many lines it runs.
+-- What a call that goes on with a run promises: which steps it makes, and what it leaves in the lent buffer.
 use mathlib.Core.Path.{_≡_}
-use mathlib.Core.Bool.{true, cond}
+use mathlib.Core.Bool.{true, false, not, cond, _&&_}
 use mathlib.Core.List.{List}
 use mathlib.Core.Logic.{_⊎_}
-use Prim.Native.Nat.{ℕ, _≤_, _<_}
+use Prim.Native.Nat.{ℕ, _+_, _≤_, _<_}
 use lib.Dec.{ltb}
 use lib.ListN.{length, take, drop}
-use Rattle.playback.specs.Run.{before, remaining}
+use Rattle.playback.specs.Run.{longestHistory, runAfter, linesOf}
 use Rattle.playback.specs.declared.run.Run.{Run}
+use Rattle.playback.specs.declared.run.RunLimits.{RunLimits}
 use Rattle.playback.specs.declared.run.Filling.{Filling}
 
--- the run r ended, or it has gone on from the place `at` and is still within s
-abbrev pub Onward : List ℕ → ℕ → Run → Type 0
-Onward s at r = (r .ended ≡ true) ⊎ ((at < r .place) × (r .place ≤ length s))
-
--- the longest line: a print
+-- the longest line, in bytes: a print
 abbrev pub longestLine : ℕ
 longestLine = 30
 
+abbrev pub runLimits : RunLimits
+runLimits = record { history = longestHistory; line = longestLine }
+
+-- 14 "lent buffer shorter than what is to be written": up to a line, but nothing once the run has ended
+abbrev pub fillRefusal : Run → ℕ → ℕ
+fillRefusal run room = cond (not (run .ended) && ltb room longestLine) 14 0
+
+-- after k steps from `run` the run has not ended, and `room` bytes are enough for one more line
+pub record GoesOn (s : List ℕ) (run : Run) (room k : ℕ) : Type 0 where
+  pub going : runAfter k s run .ended ≡ false
+  pub enough : length (linesOf k s run) + longestLine ≤ room
+
 -- a run over s stood at `run`, and the call with the lent buffer `buf` answered r and left it as `buf′`
 pub record Fills (s : List ℕ) (run : Run) (buf buf′ : List ℕ) (r : Filling) : Type 0 where
-  -- 14 "lent buffer shorter than what is to be written"
-  pub refusal : r .refusal ≡ cond (ltb (length buf) longestLine) 14 0
-  pub unchanged : length buf < longestLine → (r .run ≡ run) × (r .length ≡ 0)
-  -- what was written, followed by what remains, is what remained before: the same lines in the same order, and the same clock at the end
-  pub output : remaining s run ≡ before (take (r .length) buf′) (remaining s (r .run))
-  pub within : r .length ≤ length buf
-  -- later bytes of the buffer stay
+  pub refusal : r .refusal ≡ fillRefusal run (length buf)
+  -- So many steps were made: the call goes on as long as it can. There are none exactly where the run had ended or the call is refused.
+  pub steps : ℕ
+  pub onward : (k : ℕ) → k < steps → GoesOn s run (length buf) k
+  pub stopped : (r .run .ended ≡ true) ⊎ (length buf < r .length + longestLine)
+  -- the run handed back is the run after them
+  pub stands : r .run ≡ runAfter steps s run
+  -- their lines are the first bytes of the buffer, and later bytes stay
+  pub written : take (r .length) buf′ ≡ linesOf steps s run
   pub later : drop (r .length) buf′ ≡ drop (r .length) buf
-  -- a call with room for a line ends the run or takes it further
-  pub onward : longestLine ≤ length buf → Onward s (run .place) (r .run)
+  pub same : length buf′ ≡ length buf
+  -- what a caller needs for `&buf[..r.length]`
+  pub within : r .length ≤ length buf′
+  pub part : r .length ≡ length (take (r .length) buf′)

@@ -1,16 +1,19 @@
 -- What the crate's private functions promise. No public promise names these.
 use mathlib.Core.Path.{_≡_}
-use mathlib.Core.Bool.{Bool, true, false}
-use mathlib.Core.List.{List}
+use mathlib.Core.Bool.{Bool, true, false, cond}
+use mathlib.Core.List.{List, []}
 use Prim.Native.Nat.{ℕ, _+_, _≤_}
+use lib.Dec.{eqb}
 use lib.ListN.{length}
 use lib.Seq.{sets}
 use Rattle.clock.specs.declared.state.Clock.{Clock}
+use Rattle.event.specs.declared.event.Event as call
+use Rattle.event.specs.declared.event.Event.the-variants.{Tick, Setting, Request, Reading}
 use Rattle.history.specs.declared.Event.{Event}
-use Rattle.history.specs.declared.Event.the-variants.{Ticks, Setting, Request, Print}
+use Rattle.playback.specs.Lines.{refusedLine}
 use Rattle.playback.specs.Event.{outcomeOf, lineOf}
-use Rattle.playback.specs.Run.{before, remaining}
-use Rattle.playback.specs.Filling.{Onward, longestLine}
+use Rattle.playback.specs.Run.{step}
+use Rattle.playback.specs.Filling.{longestLine}
 use Rattle.playback.specs.declared.run.Run.{Run}
 use Rattle.playback.specs.declared.run.Done.{Done}
 use Rattle.playback.specs.declared.run.Step.{Step}
@@ -20,11 +23,15 @@ pub record Puts (ws buf : List ℕ) (at : ℕ) (buf′ : List ℕ) (next : ℕ) 
   pub stores : buf′ ≡ sets buf at ws
   pub place : next ≡ at + length ws
 
-abbrev pub isPrint : Event → Bool
-isPrint (Ticks n) = false
-isPrint (Setting s u) = false
-isPrint (Request r) = false
-isPrint Print = true
+abbrev pub isReading : call.Event → Bool
+isReading Tick = false
+isReading (Setting s u) = false
+isReading (Request r) = false
+isReading Reading = true
+
+-- the line of a refusal; 0 stands for none
+unfoldable pub refusalLine : ℕ → List ℕ
+refusalLine n = cond (eqb n 0) [] (refusedLine n)
 
 -- the event e ran on c, and its line was put
 pub record RunsEvent (c : Clock) (e : Event) (buf : List ℕ) (at : ℕ) (buf′ : List ℕ) (r : Done) : Type 0 where
@@ -36,10 +43,8 @@ pub record RunsEvent (c : Clock) (e : Event) (buf : List ℕ) (at : ℕ) (buf′
 abbrev pub endedAt : Clock → ℕ → ℕ → Step
 endedAt c place at = record { run = record { clock = c; place = place; ended = true }; at = at }
 
--- a step of a run put some bytes ws
+-- a step of a run was made, and its line was put
 pub record Steps (s : List ℕ) (run : Run) (buf : List ℕ) (at : ℕ) (buf′ : List ℕ) (r : Step) : Type 0 where
-  pub ws : List ℕ
-  pub puts : Puts ws buf at buf′ (r .at)
-  pub small : length ws ≤ longestLine
-  pub output : remaining s run ≡ before ws (remaining s (r .run))
-  pub onward : Onward s (run .place) (r .run)
+  pub line : Puts (step s run .line) buf at buf′ (r .at)
+  pub small : length (step s run .line) ≤ longestLine
+  pub stands : r .run ≡ step s run .run

@@ -1,5 +1,8 @@
+-- A run over a history. Read Lines, Event, Run, then Filling; Repeated and Calls state what they come to.
 pub mod Lines
 pub mod Event
 pub mod Run
 pub mod Filling
+pub mod Repeated
+pub mod Calls
 pub mod Inner

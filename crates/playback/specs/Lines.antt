@@ -1,10 +1,16 @@
--- The lines of the replay, in ASCII. A line ends with a newline, 10; a space is 32.
+-- The lines of the replay, in ASCII.
 use mathlib.Core.Bool.{cond}
 use mathlib.Core.List.{List, [], _∷_, _++_}
 use Prim.Native.Nat.{ℕ, zero, suc, _/_}
 use lib.Dec.{ltb}
 use Rattle.clock.specs.declared.state.Clock.{Clock}
 use Rattle.label.specs.Label.{digit, clockLabel}
+
+abbrev pub space : ℕ
+space = 0x20
+
+abbrev pub newline : ℕ
+newline = 0x0A
 
 -- n in decimal, where at most `more` digits may stand before the last
 unfoldable pub decimalFrom : ℕ → ℕ → List ℕ
@@ -21,12 +27,12 @@ six n = digit (n / 100000) ∷ digit (n / 10000) ∷ digit (n / 1000) ∷ digit 
 
 -- "the line `refused N`": r e f u s e d
 unfoldable pub refusedLine : ℕ → List ℕ
-refusedLine n = (114 ∷ 101 ∷ 102 ∷ 117 ∷ 115 ∷ 101 ∷ 100 ∷ 32 ∷ decimal n) ++ (10 ∷ [])
+refusedLine n = (0x72 ∷ 0x65 ∷ 0x66 ∷ 0x75 ∷ 0x73 ∷ 0x65 ∷ 0x64 ∷ space ∷ decimal n) ++ (newline ∷ [])
 
 -- "the line `log N at P`": l o g, a t
 unfoldable pub logLine : ℕ → ℕ → List ℕ
-logLine n p = (108 ∷ 111 ∷ 103 ∷ 32 ∷ decimal n) ++ (32 ∷ 97 ∷ 116 ∷ 32 ∷ decimal p) ++ (10 ∷ [])
+logLine n p = (0x6C ∷ 0x6F ∷ 0x67 ∷ space ∷ decimal n) ++ (space ∷ 0x61 ∷ 0x74 ∷ space ∷ decimal p) ++ (newline ∷ [])
 
 -- "A print is label, space, six-digit microseconds, space, status, newline."
 unfoldable pub printLine : Clock → List ℕ
-printLine c = clockLabel c ++ (32 ∷ six (c .micros .0)) ++ (32 ∷ decimal (c .status)) ++ (10 ∷ [])
+printLine c = clockLabel c ++ (space ∷ six (c .micros .0)) ++ (space ∷ decimal (c .status)) ++ (newline ∷ [])

@@ -1,5 +1,5 @@
--- The whole output of a history, in order, and the clock that it leaves. Document 01, "Replay program".
-use mathlib.Core.Bool.{false, cond}
+-- A run over a history, step by step, and the whole output of a history with the clock that it leaves. Document 01, "Replay program".
+use mathlib.Core.Bool.{true, false, cond}
 use mathlib.Core.List.{List, [], _++_}
 use Prim.Native.Nat.{ℕ, zero, suc}
 use lib.Dec.{leb, ltb}
@@ -11,46 +11,59 @@ use Rattle.playback.specs.Lines.{logLine}
 use Rattle.playback.specs.Event.{outcomeOf, lineOf}
 use Rattle.playback.specs.declared.run.Run.{Run}
 
--- all that a run prints, and the clock at its end
-pub record Played : Type 0 where
-  pub output : List ℕ
-  pub clock : Clock
-
--- a run that prints nothing
-abbrev pub nothing : Clock → Played
-nothing c = record { output = []; clock = c }
-
--- a line, and then a run
-abbrev pub before : List ℕ → Played → Played
-before line p = record { output = line ++ p .output; clock = p .clock }
-
--- What stands at a place, and then the rest of the run: an event runs and the run goes on after it; "undecodable bytes print the line
--- `log N at P`, P the place, from 0, of the event's first byte, and end the run".
-abbrev pub playedAs : (ℕ → Clock → Played) → Clock → ℕ → Found → Played
-playedAs rest c at (found e next) = before (lineOf c e) (rest next (outcomeOf c e .clock))
-playedAs rest c at (refused n) = record { output = logLine n at; clock = c }
-
--- The run from place `at` of s on; the end of the bytes ends it. At most `most` events are run: an event has a byte at least, so that
--- there are no more of them than bytes.
-unfoldable pub playedFrom : ℕ → List ℕ → ℕ → Clock → Played
-playedFrom zero s at c = nothing c
-playedFrom (suc most) s at c = cond (leb (length s) at) (nothing c) (playedAs (playedFrom most s) c at (eventAt s at))
-
 -- the longest history, in bytes
-abbrev pub longest : ℕ
-longest = 65536
-
--- What remains of a run: nothing where it has ended. 13 "a history above 65,536 bytes": "for 13, P is 65536 and nothing is run".
-unfoldable pub remaining : List ℕ → Run → Played
-remaining s r =
-    cond (r .ended) (nothing (r .clock))
-    (cond (ltb longest (length s)) (record { output = logLine 13 longest; clock = r .clock })
-    (playedFrom (length s) s (r .place) (r .clock)))
+abbrev pub longestHistory : ℕ
+longestHistory = 65536
 
 -- "from a fresh clock"
 abbrev pub startOfRun : Run
 startOfRun = record { clock = freshClock; place = 0; ended = false }
 
+-- the run has ended where it stands, with the clock that it has
+abbrev pub endOf : Run → Run
+endOf r = record { clock = r .clock; place = r .place; ended = true }
+
+-- where a step leads, and the line that it prints, if it prints one
+pub record Advanced : Type 0 where
+  pub run : Run
+  pub line : List ℕ
+
+-- What stands at the run's place: an event runs, prints its line, and the run goes on after it; "undecodable bytes print the line
+-- `log N at P`, P the place, from 0, of the event's first byte, and end the run".
+abbrev pub stepAt : Run → Found → Advanced
+stepAt r (found e next) =
+    record { run = record { clock = outcomeOf (r .clock) e .clock; place = next; ended = false }; line = lineOf (r .clock) e }
+stepAt r (refused n) = record { run = endOf r; line = logLine n (r .place) }
+
+-- One step of a run over s. One that has ended stays as it is. 13 "a history above 65,536 bytes": "for 13, P is 65536 and nothing is
+-- run". The end of the bytes ends the run.
+unfoldable pub step : List ℕ → Run → Advanced
+step s r =
+    cond (r .ended) (record { run = r; line = [] })
+    (cond (ltb longestHistory (length s)) (record { run = endOf r; line = logLine 13 longestHistory })
+    (cond (leb (length s) (r .place)) (record { run = endOf r; line = [] })
+    (stepAt r (eventAt s (r .place)))))
+
+-- the run after k steps
+unfoldable pub runAfter : ℕ → List ℕ → Run → Run
+runAfter zero s r = r
+runAfter (suc k) s r = runAfter k s (step s r .run)
+
+-- what k steps print, in order
+unfoldable pub linesOf : ℕ → List ℕ → Run → List ℕ
+linesOf zero s r = []
+linesOf (suc k) s r = step s r .line ++ linesOf k s (step s r .run)
+
+-- the steps that end every run of a history from its start: an event has a byte at least, so that there are no more of them than bytes,
+-- and one more step is the end
+abbrev pub stepsToEnd : List ℕ → ℕ
+stepsToEnd s = suc (length s)
+
+-- all that a history prints, and the clock at its end
+pub record Played : Type 0 where
+  pub output : List ℕ
+  pub clock : Clock
+
 -- the replay of a history
 unfoldable pub replayOf : List ℕ → Played
-replayOf s = remaining s startOfRun
+replayOf s = record { output = linesOf (stepsToEnd s) s startOfRun; clock = runAfter (stepsToEnd s) s startOfRun .clock }

@@ -6,29 +6,32 @@ ghost use Prim.Native.Nat.{_+_, _≤_, _<_};
 ghost use lib.ListN.{length};
 ghost use Rattle.clock.specs.State.{inRange};
 ghost use Rattle.label.specs.Label.{digit as Label·digit};
-ghost use Rattle.playback.specs.Lines.{decimal, refusedLine, logLine, printLine};
+ghost use Rattle.playback.specs.Lines.{decimal, logLine, printLine};
+ghost use Rattle.playback.specs.Run.{longestHistory};
 ghost use Rattle.playback.specs.Filling.{longestLine};
-ghost use Rattle.playback.specs.Inner.{Puts};
+ghost use Rattle.playback.specs.Inner.{Puts, refusalLine};
 use clock::Clock;
+
+// The length of a label, in bytes.
+const LABEL: usize = 20;
 
 // Writes a text from `at` on, and gives the place after it.
 fn put(out: &mut [u8], at: usize, text: &[u8]) -> usize
     requires { ⌜ at + length (now text) ≤ length (now out) ⌝ }
     ensures { λ r. ⌜ Puts (now (text .entry)) (now (out .entry)) at (now (out .exit)) r ⌝ }
 {
-    let mut i = 0;
-    while i < text.len() {
-        out[at + i] = text[i];
-        i += 1;
-    }
-    at + i
+    bytes::copy(text, &mut out[at..]);
+    at + text.len()
 }
+
+// The digit 0 in ASCII.
+const ZERO: u32 = 0x30;
 
 // The last decimal digit of n, in ASCII.
 fn digit(n: u32) -> u8
     ensures { λ r. ⌜ r ≡ Label·digit n ⌝ }
 {
-    (48 + n % 10) as u8
+    (ZERO + n % 10) as u8
 }
 
 // Writes n in decimal.
@@ -54,18 +57,21 @@ fn put_number(out: &mut [u8], at: usize, text: &[u8], n: u32) -> usize
     put_decimal(out, p, n)
 }
 
-// `refused N`
+// `refused N`; nothing where N is 0
 pub(crate) fn put_refused(out: &mut [u8], at: usize, n: u8) -> usize
     requires { ⌜ at + longestLine ≤ length (now out) ⌝ }
-    ensures { λ r. ⌜ Puts (refusedLine n) (now (out .entry)) at (now (out .exit)) r ⌝ }
+    ensures { λ r. ⌜ Puts (refusalLine n) (now (out .entry)) at (now (out .exit)) r ⌝ }
 {
+    if n == 0 {
+        return at;
+    }
     let end = put_number(out, at, b"refused ", n as u32);
     put(out, end, b"\n")
 }
 
 // `log N at P`
 pub(crate) fn put_log(out: &mut [u8], at: usize, n: u8, p: u32) -> usize
-    requires { ⌜ (at + longestLine ≤ length (now out)) × (p ≤ 65536) ⌝ }
+    requires { ⌜ (at + longestLine ≤ length (now out)) × (p ≤ longestHistory) ⌝ }
     ensures { λ r. ⌜ Puts (logLine n p) (now (out .entry)) at (now (out .exit)) r ⌝ }
 {
     let place = put_number(out, at, b"log ", n as u32);
@@ -78,8 +84,7 @@ pub(crate) fn put_print(out: &mut [u8], at: usize, c: Clock) -> usize
     requires { ⌜ (at + longestLine ≤ length (now out)) × (inRange c ≡ true) ⌝ }
     ensures { λ r. ⌜ Puts (printLine c) (now (out .entry)) at (now (out .exit)) r ⌝ }
 {
-    let mut label = [0u8; 20];
-    label::write(c, &mut label);
+    label::write(c, &mut out[at..]);
     let us = c.micros.0;
     let rest = [
         b' ',
@@ -93,6 +98,5 @@ pub(crate) fn put_print(out: &mut [u8], at: usize, c: Clock) -> usize
         digit(c.status as u32),
         b'\n',
     ];
-    let p = put(out, at, &label);
-    put(out, p, &rest)
+    put(out, at + LABEL, &rest)
 }

@@ -3,27 +3,41 @@ ghost use mathlib.Core.Path.{_≡_};
 ghost use mathlib.Core.Bool.{false};
 ghost use Prim.Native.Nat.{_+_, _≤_};
 ghost use lib.ListN.{length};
-ghost use Rattle.playback.specs.Event.{outcomeOf};
+ghost use Rattle.history.specs.declared.Event.the-variants.{Call};
 ghost use Rattle.playback.specs.Run.{startOfRun};
-ghost use Rattle.playback.specs.Filling.{longestLine, Fills};
-ghost use Rattle.playback.specs.Inner.{isPrint, RunsEvent, endedAt, Steps};
+ghost use Rattle.playback.specs.Filling.{longestLine, runLimits, Fills};
+ghost use Rattle.playback.specs.Inner.{isReading, RunsEvent, endedAt, Steps};
 use crate::lines::put_log;
 use crate::lines::put_print;
 use crate::lines::put_refused;
 use clock::Clock;
-use clock::Outcome;
 use clock::fresh;
 use clock::run_ticks;
-use clock::set;
+use event::step;
 use history::Entry;
 use history::Event;
-use request::adjust;
 
 // The longest history, in bytes.
-pub const LONGEST: usize = 65536;
+pub const LONGEST_HISTORY: usize = 65536;
 
 // The longest line, in bytes: what a lent buffer must have room for.
-pub const LINE: usize = 30;
+pub const LONGEST_LINE: usize = 30;
+
+// The same two, as one value.
+pub struct RunLimits {
+    pub history: usize,
+    pub line: usize,
+}
+
+// What a run takes, and what it needs.
+pub fn run_limits() -> RunLimits
+    ensures { λ r. ⌜ r ≡ runLimits ⌝ }
+{
+    RunLimits {
+        history: LONGEST_HISTORY,
+        line: LONGEST_LINE,
+    }
+}
 
 // Where a run stands: its clock, the place of the next event, and whether it has ended.
 pub struct Run {
@@ -44,32 +58,14 @@ pub fn start() -> Run
     }
 }
 
-// An event on a clock.
-fn outcome_of(c: Clock, e: Event) -> Outcome
-    ensures { λ r. ⌜ r ≡ outcomeOf c e ⌝ }
+fn is_reading(call: event::Event) -> bool
+    ensures { λ r. ⌜ r ≡ isReading call ⌝ }
 {
-    match e {
-        Event::Ticks(n) => run_ticks(c, n),
-        Event::Setting(seconds, micros) => set(c, seconds, micros),
-        Event::Request(r) => adjust(c, r),
-        Event::Print => {
-            let told = clock::read(c);
-            Outcome {
-                refusal: told.refusal,
-                clock: c,
-            }
-        }
-    }
-}
-
-fn is_print(e: Event) -> bool
-    ensures { λ r. ⌜ r ≡ isPrint e ⌝ }
-{
-    match e {
-        Event::Ticks(_) => false,
-        Event::Setting(_, _) => false,
-        Event::Request(_) => false,
-        Event::Print => true,
+    match call {
+        event::Event::Tick => false,
+        event::Event::Setting(_, _) => false,
+        event::Event::Request(_) => false,
+        event::Event::Reading => true,
     }
 }
 
@@ -79,30 +75,42 @@ struct Done {
     at: usize,
 }
 
-fn run_event(c: Clock, e: Event, out: &mut [u8], at: usize) -> Done
+fn run_call(c: Clock, call: event::Event, out: &mut [u8], at: usize) -> Done
     requires { ⌜ at + longestLine ≤ length (now out) ⌝ }
-    ensures { λ r. ⌜ RunsEvent c e (now (out .entry)) at (now (out .exit)) r ⌝ }
+    ensures { λ r. ⌜ RunsEvent c (Call call) (now (out .entry)) at (now (out .exit)) r ⌝ }
 {
-    let o = outcome_of(c, e);
-    let clock = o.clock;
-    let refusal = o.refusal;
-    if refusal != 0 {
-        let next = put_refused(out, at, refusal);
-        return Done {
-            clock: clock,
-            at: next,
-        };
-    }
-    if is_print(e) {
+    let answer = step(c, call);
+    let clock = answer.clock;
+    let refusal = answer.refusal;
+    if is_reading(call) & (refusal == 0) {
         let next = put_print(out, at, c);
         return Done {
             clock: clock,
             at: next,
         };
     }
+    let next = put_refused(out, at, refusal);
     Done {
         clock: clock,
-        at: at,
+        at: next,
+    }
+}
+
+fn run_event(c: Clock, e: Event, out: &mut [u8], at: usize) -> Done
+    requires { ⌜ at + longestLine ≤ length (now out) ⌝ }
+    ensures { λ r. ⌜ RunsEvent c e (now (out .entry)) at (now (out .exit)) r ⌝ }
+{
+    match e {
+        Event::Ticks(n) => {
+            let o = run_ticks(c, n);
+            let clock = o.clock;
+            let next = put_refused(out, at, o.refusal);
+            Done {
+                clock: clock,
+                at: next,
+            }
+        }
+        Event::Call(call) => run_call(c, call, out, at),
     }
 }
 
@@ -131,8 +139,8 @@ fn advance(bytes: &[u8], run: Run, out: &mut [u8], at: usize) -> Step
     let c = run.clock;
     let place = run.place;
     let n = bytes.len();
-    if LONGEST < n {
-        let next = put_log(out, at, 13, LONGEST as u32);
+    if LONGEST_HISTORY < n {
+        let next = put_log(out, at, 13, LONGEST_HISTORY as u32);
         return ended_at(c, place, next);
     }
     if n <= place {
@@ -161,26 +169,34 @@ fn advance(bytes: &[u8], run: Run, out: &mut [u8], at: usize) -> Step
 }
 
 // The answer of `fill`: refusal 0, where the run stands, and how many bytes of the buffer were written; or refusal 14 for a
-// buffer that has no room for a line, with the run as it was and no bytes.
+// run that has not ended and a buffer that has no room for a line, with the run as it was and no bytes.
 pub struct Filling {
     pub refusal: u8,
     pub run: Run,
     pub length: usize,
 }
 
-// Goes on with a run until it has ended or the buffer has no room for one more line. Later bytes of the buffer stay.
+// Goes on with a run until it has ended or the buffer has no room for one more line. Later bytes of the buffer stay. A run that has
+// ended stays as it is, with any buffer.
 pub fn fill(bytes: &[u8], run: Run, out: &mut [u8]) -> Filling
     ensures { λ r. ⌜ Fills (now (bytes .entry)) run (now (out .entry)) (now (out .exit)) r ⌝ }
 {
+    if run.ended {
+        return Filling {
+            refusal: 0,
+            run: run,
+            length: 0,
+        };
+    }
     let room = out.len();
-    if room < LINE {
+    if room < LONGEST_LINE {
         return Filling {
             refusal: 14,
             run: run,
             length: 0,
         };
     }
-    let last = room - LINE;
+    let last = room - LONGEST_LINE;
     let mut now = run;
     let mut at = 0;
     while !now.ended & (at <= last) {

@@ -5,12 +5,12 @@ ghost use lib.ListN.{length};
 ghost use Rattle.replay.specs.Input.{most};
 use libc::STDIN_FILENO;
 use libc::STDOUT_FILENO;
-use playback::run::LONGEST;
-use playback::run::fill;
-use playback::run::start;
+use playback::LONGEST_HISTORY;
+use playback::fill;
+use playback::start;
 
 // One byte more than the longest history, so that a longer one is seen.
-const ROOM: usize = LONGEST + 1;
+const ROOM: usize = LONGEST_HISTORY + 1;
 
 // What was read: so many bytes, up to the end of the input or of the room; or a read failed.
 enum Input {

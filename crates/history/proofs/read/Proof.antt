@@ -47,6 +47,9 @@ setting-at-requires c κs = search needs
 request-at-requires : tie.Need-request-at-requires
 request-at-requires c κs = search needs
 
+called-requires : tie.Need-called-requires
+called-requires c κs = search needs
+
 returns-2 : tie.Need-returns-2
 unfolding argumentsAt
 returns-2 c = brought (c .before .before) (simp (c .before .match2 .keys1) (c .ticks-at .ensures))
@@ -61,7 +64,7 @@ returns-4 c = brought (c .before .before) (simp (c .before .match2 .keys3) (c .r
 
 returns-5 : tie.Need-returns-5
 unfolding argumentsAt
-returns-5 c = brought (c .before) (simp (c .match2 .keys4))
+returns-5 c = brought (c .before .before) (simp (c .before .match2 .keys4) (c .called .ensures))
 
 returns-6 : tie.Need-returns-6
 unfolding argumentsAt
@@ -79,6 +82,7 @@ read-spec =
     ticks-at-requires
     setting-at-requires
     request-at-requires
+    called-requires
     returns-2
     returns-3
     returns-4

@@ -157,13 +157,18 @@ refusal-of-requires-7 c κs = search needs
 returns-7 : tie.Need-returns-7
 returns-7 c = stopped (b6 (c .before .before .before .before)) (c .before .before .before .field-at6 .ensures) (c .before .enum-told7 .given .1) (c .refusal-of7 .ensures)
 
+called-requires : tie.Need-called-requires
+called-requires c κs = search needs
+
 returns-8 : tie.Need-returns-8
-returns-8 c =
+returns-8 c0 =
+    let c = c0 .before in
     let c4 = c .before .before .before .before in
     let c8 = c4 .before .before .before .before in
     let c12 = c8 .before .before .before .before in
     let c16 = c12 .before .before .before .before in
-    rw (c16 .before .before .before .before .before .offset-of .ensures, c16 .frequency-of .ensures)
+    c0 .called .ensures
+    ∙ rw (c16 .before .before .before .before .before .offset-of .ensures, c16 .frequency-of .ensures)
     (sym (went (b6 c4) (c .before .before .before .field-at6 .ensures) (c .before .d6 .given .1)))
 
 pub request-at-spec : {M : Type 1} → statement M
@@ -208,4 +213,5 @@ request-at-spec =
     enum-told-7
     refusal-of-requires-7
     returns-7
+    called-requires
     returns-8)

@@ -1,16 +1,17 @@
 -- `history::setting_at` meets its contract: a number that was read takes the reading to the next (`went`), and one that was refused ends it (`stopped`).
-use mathlib.Core.Path.{_≡_, refl, sym}
+use mathlib.Core.Path.{_≡_, refl, sym, _∙_}
 use mathlib.Core.List.{List}
 use Prim.Native.Nat.{ℕ}
 use Rattle.number.specs.Reading.{numberAt}
-use Rattle.history.specs.declared.Event.the-variants.{Setting}
+use Rattle.event.specs.declared.event.Event.the-variants.{Setting}
+use Rattle.history.specs.declared.Event.the-variants.{Call}
 use Rattle.history.specs.Event.{then, found, askedMicros, settingAt}
 use Rattle.history.proofs.Steps.{Before, went, stopped}
 use borrow.Author.Needs.{needs}
 use Rattle.history.proofs.setting_at.Statement.{statement}
 use Rattle.history.proofs.setting_at.Tie as tie
 
-opened : (s : List ℕ) (at : ℕ) → settingAt s at ≡ then (numberAt s at) (λ seconds n0. then (numberAt s n0) (λ micros next. found (Setting seconds (askedMicros micros)) next))
+opened : (s : List ℕ) (at : ℕ) → settingAt s at ≡ then (numberAt s at) (λ seconds n0. then (numberAt s n0) (λ micros next. found (Call (Setting seconds (askedMicros micros))) next))
 unfolding settingAt
 opened s at = refl
 
@@ -54,8 +55,11 @@ refusal-of-requires-2 c κs = search needs
 returns-2 : tie.Need-returns-2
 returns-2 c = stopped (b1 (c .before .before .before .before)) (c .before .before .before .read2 .ensures) (c .before .enum-told2 .given .1) (c .refusal-of2 .ensures)
 
+called-requires : tie.Need-called-requires
+called-requires c κs = search needs
+
 returns-3 : tie.Need-returns-3
-returns-3 c = sym (went (b1 (c .before .before .before .before)) (c .before .before .before .read2 .ensures) (c .before .d1 .given .1))
+returns-3 c0 = let c = c0 .before in c0 .called .ensures ∙ sym (went (b1 (c .before .before .before .before)) (c .before .before .before .read2 .ensures) (c .before .d1 .given .1))
 
 pub setting-at-spec : {M : Type 1} → statement M
 setting-at-spec =
@@ -71,4 +75,5 @@ setting-at-spec =
     enum-told-2
     refusal-of-requires-2
     returns-2
+    called-requires
     returns-3)

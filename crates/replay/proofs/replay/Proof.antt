@@ -1,12 +1,11 @@
 -- `replay::replay` ends: each call of `fill` ends the run or takes it further. The measure is what is left to run.
-use mathlib.Core.Path.{_≡_, sym}
-use Prim.Native.Nat.{_≤_}
+use mathlib.Core.Path.{_≡_}
 use native.Mathlib.Omega.{arith}
 use borrow.Author.Needs.{needs}
 use lib.ListN.{length}
-use lib.Seq.{length-take-le}
 use borrow.Author.Tests.{not-true}
-use Rattle.playback.proofs.FillLaws.{left, onward-less}
+use Rattle.playback.proofs.RunLaws.{left}
+use Rattle.playback.proofs.FillLaws.{filled-less}
 use Rattle.replay.proofs.replay.Statement.{statement}
 use Rattle.replay.proofs.replay.Tie as tie
 
@@ -35,10 +34,7 @@ array-share-prefix-out : tie.Need-array-share-prefix-out Inv-loop μ-loop
 array-share-prefix-out c = search needs
 
 slice-aggregate-write-all : tie.Need-slice-aggregate-write-all Inv-loop μ-loop
-slice-aggregate-write-all c =
-    let f = c .before .before .fill in
-    let h : f .result .length ≤ length (f .last .1 .1 .0) = search needs in
-    sym (length-take-le (f .result .length) (f .last .1 .1 .0) h)
+slice-aggregate-write-all c = search needs
 
 write-all-requires : tie.Need-write-all-requires Inv-loop μ-loop
 write-all-requires c κs = search needs
@@ -56,7 +52,8 @@ loop-less : tie.Need-loop-less Inv-loop μ-loop
 loop-less c =
     let L = c .before .before .before .before .before .before .before .before .before .loop in
     let f = c .before .before .before .before .before .fill in
-    onward-less (c .before .before .before .before .before .before .before .before .before .before .before .before .before .args .bytes .now) (L .run) (f .result .run) (not-true _ (c .before .before .before .before .before .before .before .if1 .taken)) (f .ensures .onward (omega (arith, L .inv)))
+    let s = c .before .before .before .before .before .before .before .before .before .before .before .before .before in
+    filled-less (s .args .bytes .now) (omega (arith, L .inv)) (not-true _ (c .before .before .before .before .before .before .before .if1 .taken)) (f .ensures)
 
 loop-again : tie.Need-loop-again Inv-loop μ-loop
 loop-again c = search needs

@@ -1,70 +1,41 @@
--- `playback::lines::put` meets its contract. The loop's invariant: the stores still to be made, on the buffer as it is, are those of the
--- whole text on the buffer as it was. The measure is what is left of the text.
-use mathlib.Core.Path.{_≡_, refl, sym, _∙_, ap}
-use Prim.Native.Nat.{ℕ, _+_, _-_, _≤_}
-use native.Mathlib.Omega.{arith}
-use lib.ListN.{length, drop, length-set}
-use lib.Seq.{sets}
+-- `playback::put` meets its contract: what the copy leaves is what the stores leave.
+use mathlib.Core.Path.{refl, _∙_, ap}
+use mathlib.Core.List.{List, _++_}
+use Prim.Native.Nat.{ℕ, _-_}
+use lib.ListN.{length, drop}
+use lib.Seq.{take-length}
+use borrow.Rule.Slice.PartMut.{midOf}
+use Rattle.playback.proofs.Buffers.{puts-part}
 use borrow.Author.Needs.{needs}
-use Rattle.playback.proofs.Buffers.{sets-rest, sets-end}
 use Rattle.playback.proofs.lines.put.Statement.{statement}
 use Rattle.playback.proofs.lines.put.Tie as tie
 
-abbrev Inv-loop : tie.InvT-loop
-Inv-loop out₀ at text i₀ out i = (sets out₀ at text ≡ sets out (at + i) (drop i text)) × ((i ≤ length text) × (length out ≡ length out₀))
+sub-copy : tie.Need-sub-copy
+sub-copy c = search needs
 
-abbrev μ-loop : tie.MeasureT-loop
-μ-loop out₀ at text i₀ out i = length text - i
+part-copy-start : tie.Need-part-copy-start
+part-copy-start c = search needs
 
-loop-holds : tie.Need-loop-holds Inv-loop μ-loop
-loop-holds c = (ap (λ (k : ℕ). sets (c .args .out .now) k (c .args .text .now)) (omega arith), (omega arith, refl))
+part-copy-end : tie.Need-part-copy-end
+part-copy-end c = search needs
 
-shared-slice-read-out : tie.Need-shared-slice-read-out Inv-loop μ-loop
-shared-slice-read-out c = search needs
+copy-requires : tie.Need-copy-requires
+copy-requires c κs = search needs
 
-add-out : tie.Need-add-out Inv-loop μ-loop
-add-out c = search needs
-
-slice-write-out : tie.Need-slice-write-out Inv-loop μ-loop
-slice-write-out c = search needs
-
-add-i : tie.Need-add-i Inv-loop μ-loop
-add-i c = search needs
-
-loop-less : tie.Need-loop-less Inv-loop μ-loop
-loop-less c = search needs
-
-loop-again : tie.Need-loop-again Inv-loop μ-loop
-loop-again c =
-    let L = c .before .before .loop in
-    let a = c .before .before .before .args in
-    (L .inv .0 ∙ sets-rest (L .out) (a .at) (a .text .now) (L .i) (c .before .loop-test .taken), (omega arith, simp length-set (L .inv .1 .1)))
-
-add-result : tie.Need-add-result Inv-loop μ-loop
+add-result : tie.Need-add-result
 add-result c = search needs
 
-same-length : tie.Need-same-length Inv-loop μ-loop
+same-length : tie.Need-same-length
 same-length c = search needs
 
-returns : tie.Need-returns Inv-loop μ-loop
+returns : tie.Need-returns
 returns c =
-    let L = c .before .loop in
-    let a = c .before .before .args in
-    record { stores = sym (L .inv .0 ∙ sets-end (L .out) (a .at) (a .text .now) (L .i) (c .loop-test .left)); place = omega arith }
+    let s = c .before .before .before .before .before .before in
+    puts-part (s .args .text .now) (s .args .out .now) (s .args .at) (s .pre)
+    (c .before .before .copy .ensures .1 ∙ ap (λ (l : List ℕ). l ++ drop (length (s .args .text .now)) (midOf (s .args .at) (length (s .args .out .now) - s .args .at) (s .args .out .now))) (take-length (s .args .text .now)))
+    refl
 
 pub put-spec : {M : Type 1} → statement M
 put-spec =
     tie.close
-    (tie.spec
-    Inv-loop
-    μ-loop
-    loop-holds
-    shared-slice-read-out
-    add-out
-    slice-write-out
-    add-i
-    loop-less
-    loop-again
-    add-result
-    same-length
-    returns)
+    (tie.spec sub-copy part-copy-start part-copy-end copy-requires add-result same-length returns)

@@ -1,4 +1,4 @@
--- `playback::lines::put_log` meets its contract: its parts one after the other.
+-- `playback::put_log` meets its contract: its parts one after the other.
 use Prim.Native.Nat.{_≤_}
 use native.Mathlib.Omega.{arith}
 use lib.ListN.{length}

@@ -1,4 +1,4 @@
--- `playback::lines::put_number` meets its contract: the text, and then the number.
+-- `playback::put_number` meets its contract: the text, and then the number.
 use Rattle.playback.proofs.Buffers.{puts-then}
 use borrow.Author.Needs.{needs}
 use Rattle.playback.proofs.lines.put_number.Statement.{statement}

@@ -1,4 +1,4 @@
--- `playback::run::ended_at` meets its contract.
+-- `playback::ended_at` meets its contract.
 use mathlib.Core.Path.{refl}
 use Rattle.playback.proofs.run.ended_at.Statement.{statement}
 use Rattle.playback.proofs.run.ended_at.Tie as tie

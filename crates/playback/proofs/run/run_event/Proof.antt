@@ -1,82 +1,62 @@
--- `playback::run::run_event` meets its contract: the line of a refusal, of a print, or none.
-use mathlib.Core.Path.{sym, _∙_, ap}
+-- `playback::run_event` meets its contract: many ticks with the line of their refusal, or a call.
+use mathlib.Core.Path.{_∙_, ap}
 use native.Mathlib.Omega.{arith}
 use Rattle.clock.specs.declared.outcome.Outcome.{Outcome}
-use Rattle.playback.proofs.Buffers.{puts-none, puts-as}
-use Rattle.playback.proofs.LineLaws.{refused-small, print-small, line-refused, line-print, line-nothing, clock-sound}
+use Rattle.playback.specs.Event.{outcomeOf}
+use Rattle.playback.specs.Inner.{refusalLine}
+use Rattle.playback.proofs.Buffers.{puts-as}
+use Rattle.playback.proofs.LineLaws.{refusal-small, line-ticks}
 use borrow.Author.Needs.{needs}
 use Rattle.playback.proofs.run.run_event.Statement.{statement}
 use Rattle.playback.proofs.run.run_event.Tie as tie
 
-outcome-of-requires : tie.Need-outcome-of-requires
-outcome-of-requires c κs = search needs
+enum-known-e : tie.Need-enum-known-e
+enum-known-e c = search needs
+
+run-ticks-requires : tie.Need-run-ticks-requires
+run-ticks-requires c κs = search needs
 
 put-refused-requires : tie.Need-put-refused-requires
 put-refused-requires c κs = search needs
+
+enum-known-e-2 : tie.Need-enum-known-e-2
+enum-known-e-2 c = search needs
+
+run-call-requires : tie.Need-run-call-requires
+run-call-requires c κs = search needs
 
 same-length : tie.Need-same-length
 same-length c = search needs
 
 returns : tie.Need-returns
+unfolding outcomeOf
 returns c =
-    let s = c .before .before .before .before .before .before .before .before in
-    let o = c .before .before .before .before .before .before .outcome-of in
-    let p = c .before .before .put-refused in
-    let e = line-refused (s .args .c) (s .args .e) (o .result) (o .ensures) (c .before .before .before .before .if1 .taken) in
-    record {
-      line = puts-as e (p .ensures);
-      small = rw (← e) (refused-small (o .result .refusal) (omega arith));
+    let s = c .before .before .before .before .before .before .before .before .before .before in
+    let n = c .before .before .before .before .before .before .before .e .given in
+    let o = c .before .before .before .before .before .run-ticks in
+    let e = ap (λ (x : Outcome). refusalLine (x .refusal)) (o .ensures) ∙ line-ticks (s .args .c) (n .0 .0) in
+    rw (n .1) (record {
+      line = puts-as e (c .before .before .put-refused .ensures);
+      small = rw (← e) (refusal-small (o .result .refusal) (omega arith));
       clock = ap (λ (x : Outcome). x .clock) (o .ensures);
-    }
-
-is-print-requires : tie.Need-is-print-requires
-is-print-requires c κs = search needs
-
-put-print-requires : tie.Need-put-print-requires
-put-print-requires c κs =
-    let s = c .before .before .before .before .before .before .before in
-    let o = c .before .before .before .before .before .outcome-of in
-    (s .pre, clock-sound (s .args .c) (s .args .e) (o .result) (o .ensures) (c .before .before .before .if1 .left) (sym (c .before .before .is-print .ensures) ∙ c .before .if2 .taken))
+    })
 
 same-length-2 : tie.Need-same-length-2
 same-length-2 c = search needs
 
 returns-2 : tie.Need-returns-2
-returns-2 c =
-    let s = c .before .before .before .before .before .before .before .before .before .before in
-    let o = c .before .before .before .before .before .before .before .before .outcome-of in
-    let p = c .before .before .put-print in
-    let z = c .before .before .before .before .before .before .if1 .left in
-    let t = sym (c .before .before .before .before .before .is-print .ensures) ∙ c .before .before .before .before .if2 .taken in
-    let e = line-print (s .args .c) (s .args .e) (o .result) (o .ensures) z t in
-    record {
-      line = puts-as e (p .ensures);
-      small = rw (← e) (print-small (s .args .c) (clock-sound (s .args .c) (s .args .e) (o .result) (o .ensures) z t));
-      clock = ap (λ (x : Outcome). x .clock) (o .ensures);
-    }
-
-returns-3 : tie.Need-returns-3
-returns-3 c =
-    let s = c .before .before .before .before .before .before in
-    let o = c .before .before .before .before .outcome-of in
-    let t = sym (c .before .is-print .ensures) ∙ c .if2 .left in
-    let e = line-nothing (s .args .c) (s .args .e) (o .result) (o .ensures) (c .before .before .if1 .left) t in
-    record {
-      line = puts-as e (puts-none (s .args .out .now) (s .args .at));
-      small = rw (← e) (omega arith);
-      clock = ap (λ (x : Outcome). x .clock) (o .ensures);
-    }
+returns-2 c = rw (c .before .before .before .before .before .e2 .given .1) (c .before .before .run-call .ensures)
 
 pub run-event-spec : {M : Type 1} → statement M
 run-event-spec =
     tie.close
     (tie.spec
-    outcome-of-requires
+    enum-known-e
+    run-ticks-requires
     put-refused-requires
+    enum-known-e-2
+    run-call-requires
     same-length
     returns
-    is-print-requires
-    put-print-requires
     same-length-2
-    returns-2
-    returns-3)
+    returns-2)

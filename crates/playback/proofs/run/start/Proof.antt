@@ -1,4 +1,4 @@
--- A run starts at the first byte, on a fresh clock.
+-- `playback::start` meets its contract: a run starts at the first byte, on a fresh clock.
 use borrow.Author.Needs.{needs}
 use Rattle.playback.proofs.run.start.Statement.{statement}
 use Rattle.playback.proofs.run.start.Tie as tie

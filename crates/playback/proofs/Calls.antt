@@ -1,0 +1,216 @@
+-- The clock of a run is the clock after the list of its calls, so that demand 3 holds of every history.
+use mathlib.Core.Path.{_≡_, refl, sym, _∙_, ap}
+use mathlib.Core.Bool.{Bool, true, false}
+use mathlib.Core.List.{List, [], _∷_, _++_, append-assoc}
+use Prim.Native.Nat.{ℕ, zero, suc, _+_, _-_, _<_, _≤_}
+use native.Mathlib.Omega.{arith}
+use lib.Dec.{leb, ltb, eqb}
+use lib.ListN.{length}
+use borrow.Author.Tests.{le-leb, lt-leb, le-ltb, leb-true, leb-false, ltb-true, ltb-false}
+use Rattle.clock.specs.Tick.{tickOf}
+use Rattle.clock.specs.Reading.{readingOf, shown}
+use Rattle.clock.specs.State.{freshClock}
+use Rattle.clock.specs.declared.state.Clock.{Clock}
+use Rattle.event.specs.Event.{stepOf}
+use Rattle.event.specs.declared.event.Event as call
+use Rattle.event.specs.declared.event.Event.the-variants.{Reading}
+use Rattle.bounds.specs.Calls.{afterBy, after, clockAfter}
+use Rattle.bounds.proofs.Runs.{after-append}
+use Rattle.bounds.proofs.Theorem.{demand3}
+use Rattle.history.specs.declared.Event.{Event}
+use Rattle.history.specs.declared.Event.the-variants.{Ticks, Call}
+use Rattle.history.specs.Event.{Found, found, refused, eventAt}
+use Rattle.history.proofs.Extent.{Past, event-past}
+use Rattle.clock.specs.Ticks.{ticksOf}
+use Rattle.playback.specs.Lines.{printLine}
+use Rattle.playback.specs.Event.{outcomeOf, lineOf}
+use Rattle.playback.specs.Run.{Advanced, longestHistory, startOfRun, endOf, step, runAfter, stepsToEnd, replayOf}
+use Rattle.playback.specs.Calls.{singleTicks, callsOfEvent, callsFrom, callsOfFirst, callsOf, PrintAt, Tells, Demand3OfEveryHistory}
+use Rattle.playback.specs.declared.run.Run.{Run}
+use Rattle.playback.proofs.LineLaws.{reading-sound, line-print}
+use Rattle.playback.proofs.RunLaws.{step-long, step-end, step-found, run-ended, start-ends}
+
+-- ---- the clock after the calls of an event
+
+-- a tick that is refused hands back the clock, and so do those after it
+refused-stays : (c : Clock) → eqb (tickOf c .refusal) 0 ≡ false → tickOf c .clock ≡ c
+unfolding tickOf
+refused-stays c t = simp t
+
+refused-ticks : (n : ℕ) (c : Clock) → eqb (tickOf c .refusal) 0 ≡ false → after c (singleTicks n) ≡ c
+unfolding afterBy singleTicks
+refused-ticks zero c t = refl
+refused-ticks (suc n) c t = ap (λ (d : Clock). after d (singleTicks n)) (refused-stays c t) ∙ refused-ticks n c t
+
+by-tick : (n : ℕ) (c : Clock) → after (tickOf c .clock) (singleTicks n) ≡ ticksOf n (tickOf c .clock) .clock → (b : Bool) → eqb (tickOf c .refusal) 0 ≡ b
+    → after c (singleTicks (suc n)) ≡ ticksOf (suc n) c .clock
+unfolding afterBy singleTicks ticksOf
+by-tick n c h true t = simp t h
+by-tick n c h false t = simp t (refused-ticks (suc n) c t ∙ sym (refused-stays c t))
+
+ticks-after : (n : ℕ) (c : Clock) → after c (singleTicks n) ≡ ticksOf n c .clock
+unfolding afterBy singleTicks ticksOf
+ticks-after zero c = refl
+ticks-after (suc n) c = by-tick n c (ticks-after n (tickOf c .clock)) (eqb (tickOf c .refusal) 0) refl
+
+event-after : (c : Clock) (e : Event) → after c (callsOfEvent e) ≡ outcomeOf c e .clock
+unfolding afterBy outcomeOf
+event-after c (Ticks n) = ticks-after n c
+event-after c (Call e) = refl
+
+-- ---- the clock after the calls of the events so far
+
+abbrev standing : Clock → ℕ → Run
+standing c at = record { clock = c; place = at; ended = false }
+
+module _ (s : List ℕ) (fits : length s ≤ longestHistory) where
+  -- what a run does next, and which calls it makes
+  data Next (c : Clock) (at : ℕ) : Type 0 where
+    stops : ((k : ℕ) → callsFrom k s at ≡ []) → step s (standing c at) .run ≡ endOf (standing c at) → Next c at
+    goes : (e : Event) (next : ℕ) → ((k : ℕ) → callsFrom (suc k) s at ≡ callsOfEvent e ++ callsFrom k s next)
+        → step s (standing c at) .run ≡ standing (outcomeOf c e .clock) next → Next c at
+
+  none-at-end : (at : ℕ) → length s ≤ at → (k : ℕ) → callsFrom k s at ≡ []
+  unfolding callsFrom
+  none-at-end at h zero = refl
+  none-at-end at h (suc k) = simp (le-leb _ _ h)
+
+  none-refused : (at n : ℕ) → at < length s → eventAt s at ≡ refused n → (k : ℕ) → callsFrom k s at ≡ []
+  unfolding callsFrom
+  none-refused at n h i zero = refl
+  none-refused at n h i (suc k) = simp (lt-leb _ _ h, i)
+
+  some-found : (at : ℕ) (e : Event) (next : ℕ) → at < length s → eventAt s at ≡ found e next → (k : ℕ)
+      → callsFrom (suc k) s at ≡ callsOfEvent e ++ callsFrom k s next
+  unfolding callsFrom
+  some-found at e next h i k = simp (lt-leb _ _ h, i)
+
+  module _ (c : Clock) (at : ℕ) where
+    by-found : at < length s → (x : Found) → eventAt s at ≡ x → Next c at
+    by-found h (found e next) i = goes e next (some-found at e next h i) (rw (step-found s (standing c at) refl fits h i))
+    by-found h (refused n) i = stops (none-refused at n h i) (rw (step-found s (standing c at) refl fits h i))
+
+    by-place : (b : Bool) → leb (length s) at ≡ b → Next c at
+    by-place true t = let h = leb-true _ _ t in stops (none-at-end at h) (rw (step-end s (standing c at) refl fits h))
+    by-place false t = by-found (leb-false _ _ t) (eventAt s at) refl
+
+    next-of : Next c at
+    next-of = by-place (leb (length s) at) refl
+
+  -- the clock after k steps
+  ClockFrom : ℕ → Type 0
+  ClockFrom k = (c : Clock) (at : ℕ) → runAfter k s (standing c at) .clock ≡ after c (callsFrom k s at)
+
+  clock-more : (k : ℕ) → ClockFrom k → (c : Clock) (at : ℕ) → Next c at → runAfter (suc k) s (standing c at) .clock ≡ after c (callsFrom (suc k) s at)
+  unfolding ClockFrom runAfter afterBy
+  clock-more k f c at (stops none e) =
+      ap (λ (r : Run). runAfter k s r .clock) e ∙ ap (λ (r : Run). r .clock) (run-ended s k (endOf (standing c at)) refl) ∙ ap (after c) (sym (none (suc k)))
+  clock-more k f c at (goes v next some e) =
+      ap (λ (r : Run). runAfter k s r .clock) e
+      ∙ f (outcomeOf c v .clock) next
+      ∙ ap (λ (d : Clock). after d (callsFrom k s next)) (sym (event-after c v))
+      ∙ sym (after-append c (callsOfEvent v) (callsFrom k s next))
+      ∙ ap (after c) (sym (some k))
+
+  clock-from : (k : ℕ) → ClockFrom k
+  unfolding ClockFrom runAfter afterBy callsFrom
+  clock-from zero c at = refl
+  clock-from (suc k) c at = clock-more k (clock-from k) c at (next-of c at)
+
+  -- the calls of k events and of m more, from where the run stands after k steps
+  CallsOn : ℕ → ℕ → Type 0
+  CallsOn m k = (c : Clock) (at : ℕ) → callsFrom (k + m) s at ≡ callsFrom k s at ++ callsFrom m s (runAfter k s (standing c at) .place)
+
+  calls-more : (m k : ℕ) → CallsOn m k → (c : Clock) (at : ℕ) → Next c at
+      → callsFrom (suc k + m) s at ≡ callsFrom (suc k) s at ++ callsFrom m s (runAfter (suc k) s (standing c at) .place)
+  unfolding CallsOn runAfter
+  calls-more m k f c at (stops none e) =
+      none (suc k + m)
+      ∙ sym (none m)
+      ∙ ap (λ (r : Run). callsFrom m s (r .place)) (sym (run-ended s k (endOf (standing c at)) refl))
+      ∙ ap (λ (r : Run). callsFrom m s (runAfter k s r .place)) (sym e)
+      ∙ ap (λ (es : List call.Event). es ++ callsFrom m s (runAfter (suc k) s (standing c at) .place)) (sym (none (suc k)))
+  calls-more m k f c at (goes v next some e) =
+      let i : suc k + m ≡ suc (k + m) = omega arith in
+      ap (λ (j : ℕ). callsFrom j s at) i
+      ∙ some (k + m)
+      ∙ ap (λ (es : List call.Event). callsOfEvent v ++ es) (f (outcomeOf c v .clock) next)
+      ∙ sym (append-assoc (callsOfEvent v) (callsFrom k s next) _)
+      ∙ ap (λ (r : Run). (callsOfEvent v ++ callsFrom k s next) ++ callsFrom m s (runAfter k s r .place)) (sym e)
+      ∙ ap (λ (es : List call.Event). es ++ callsFrom m s (runAfter (suc k) s (standing c at) .place)) (sym (some k))
+
+  calls-on : (m k : ℕ) → CallsOn m k
+  unfolding CallsOn runAfter callsFrom
+  calls-on m zero c at = let i : zero + m ≡ m = omega arith in ap (λ (j : ℕ). callsFrom j s at) i
+  calls-on m (suc k) c at = calls-more m k (calls-on m k) c at (next-of c at)
+
+-- an accepted reading tells what the clock shows, and that is printed
+reading-shown : (c : Clock) → stepOf c Reading .refusal ≡ 0 → stepOf c Reading .reading ≡ shown c
+unfolding readingOf
+reading-shown c z = simp (reading-sound c Reading refl z)
+
+print-shown : (c : Clock) → stepOf c Reading .refusal ≡ 0 → lineOf c (Call Reading) ≡ printLine c
+print-shown c z = sym (line-print c Reading refl z)
+
+module _ (s : List ℕ) where
+  -- nothing is run of a history that is too long
+  long-clock : longestHistory < length s → (k : ℕ) → runAfter k s startOfRun .clock ≡ freshClock
+  unfolding runAfter
+  long-clock h zero = refl
+  long-clock h (suc k) =
+      ap (λ (a : Advanced). runAfter k s (a .run) .clock) (step-long s startOfRun refl h)
+      ∙ ap (λ (r : Run). r .clock) (run-ended s k (endOf startOfRun) refl)
+
+  by-length : (k : ℕ) (b : Bool) → ltb longestHistory (length s) ≡ b → runAfter k s startOfRun .clock ≡ clockAfter (callsOfFirst k s)
+  unfolding callsOfFirst afterBy ClockFrom
+  by-length k true t = simp t (long-clock (ltb-true _ _ t) k)
+  by-length k false t = simp t (clock-from s (ltb-false _ _ t) k freshClock 0)
+
+  clocks : (k : ℕ) → runAfter k s startOfRun .clock ≡ clockAfter (callsOfFirst k s)
+  clocks k = by-length k (ltb longestHistory (length s)) refl
+
+  module _ (k : ℕ) (p : PrintAt s k) where
+    abbrev now : Run
+    now = runAfter k s startOfRun
+
+    inside : Past s (now .place) (p .next)
+    inside = event-past s (now .place) (p .print)
+
+    before-end : (b : Bool) → leb (stepsToEnd s) k ≡ b → k ≤ length s
+    before-end true t = absurd (let e = start-ends s k (leb-true _ _ t) in let w : _≡_ {A = ℕ} 0 1 = cc (p .going) in omega arith)
+    before-end false t = omega (arith, leb-false (stepsToEnd s) k t)
+
+    more : ℕ
+    more = length s - k
+
+    counted : stepsToEnd s ≡ k + suc more
+    unfolding more
+    counted = omega (arith, before-end (leb (stepsToEnd s) k) refl)
+
+    among : callsOf s ≡ callsOfFirst k s ++ (Reading ∷ callsFrom more s (p .next))
+    unfolding callsOfFirst CallsOn
+    among =
+        simp (le-ltb longestHistory (length s) (p .fits))
+        (ap (λ (j : ℕ). callsFrom j s 0) counted
+        ∙ calls-on s (p .fits) (suc more) k freshClock 0
+        ∙ ap (λ (es : List call.Event). callsFrom k s 0 ++ es) (some-found s (p .fits) (now .place) (Call Reading) (p .next) (omega (arith, inside)) (p .print) more))
+
+    accepted : stepOf (clockAfter (callsOfFirst k s)) Reading .refusal ≡ 0
+    accepted = demand3 (callsOfFirst k s) .first .accepted
+
+    tells : Tells s k
+    tells =
+        record {
+          later = callsFrom more s (p .next);
+          among = among;
+          refusal = accepted;
+          reading = reading-shown (clockAfter (callsOfFirst k s)) accepted;
+          line =
+              ap (λ (a : Advanced). a .line) (step-found s now (p .going) (p .fits) (omega (arith, inside)) (p .print))
+              ∙ ap (λ (c : Clock). lineOf c (Call Reading)) (clocks k)
+              ∙ print-shown (clockAfter (callsOfFirst k s)) accepted;
+        }
+
+pub demand3-of-history : Demand3OfEveryHistory
+unfolding replayOf
+demand3-of-history s = record { demand = demand3 (callsOf s); clock = clocks s (stepsToEnd s); clocks = clocks s; prints = tells s }
