@@ -176,6 +176,8 @@ fn same_limits() -> bool {
     same = same & (l.constant == 4) & (l.error == 16000000);
     same = same & (t.ok == 0) & (t.ins == 1) & (t.del == 2) & (t.oop == 3) & (t.bad == 4);
     same = same & (u.phase == 268435456) & (u.offset == 16384) & (u.frequency == 16777216);
+    let r = playback::run_limits();
+    same = same & (r.history == 65536) & (r.line == 30);
     same & (u.second == 1000000) & (u.day == 86400)
 }
 

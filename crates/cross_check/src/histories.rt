@@ -72,7 +72,8 @@ fn run_both(bytes: [u8; 64], from: Replayed, room: usize) -> bool {
     same_replay(&bytes[..end % 65], head, from, room)
 }
 
-// A history of up to 64 bytes. Once in 16 the buffer has room for no line, and once in 16 of the others the run has ended before.
+// A history of up to 64 bytes. Once in 16 the buffer has room for no line, and once in 16 the run has ended before, which is no
+// refusal with any buffer.
 pub(crate) fn replay(case: u64) -> Verdict {
     let b = some_history(case);
     let bytes = b.bytes;
@@ -82,10 +83,10 @@ pub(crate) fn replay(case: u64) -> Verdict {
     let mut out = [0u8; 2048];
     let whole = caught_up(begun(s, b.end), 0, true, &bytes, &mut out);
     let mut from = begun(s, whole.end);
-    from.over = !short & (v / 128 % 16 == 0);
+    from.over = v / 128 % 16 == 0;
     let room = pick(short, v / 2048 % 30, 30 + v / 2048 % 35) as usize;
     Verdict {
-        refusal: pick(short, 14, pick(from.over, 0, whole.refusal)),
+        refusal: pick(from.over, 0, pick(short, 14, whole.refusal)),
         same: run_both(bytes, from, room),
     }
 }
