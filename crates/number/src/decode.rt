@@ -7,9 +7,10 @@ ghost use Rattle.number.specs.Inner.{laterAt, onto};
 use crate::form::GROUP;
 use crate::form::MORE;
 
-// A byte from here on says that more follows; and what a group is worth after one, or two, before it.
+// The least byte that says that more follows.
 const SAYS_MORE: u64 = MORE as u64;
 
+// What a unit of the second group is worth, and of the third.
 const SECOND: u64 = GROUP as u64;
 
 const THIRD: u64 = SECOND * SECOND;
