@@ -10,7 +10,7 @@ use lib.Seq.{drop-drop, drop-append-seam}
 use borrow.Author.Tests.{ltb-true, ltb-false}
 use Rattle.number.specs.Form.{bytesFrom, bytesOf}
 use Rattle.number.specs.Reading.{number, numberAt}
-use Rattle.number.specs.Later.{laterAt}
+use Rattle.number.specs.Inner.{laterAt}
 use Rattle.number.proofs.Lists.{either, Here, here}
 use Rattle.number.proofs.Sizes.{from-last, from-more, shorter}
 use Rattle.number.proofs.Steps.{before, first-last, first-more, later-last, later-more}

@@ -9,7 +9,7 @@ use lib.Dec.{leb, eqb, leb·suc-suc, leb·suc-zero, leb·zero}
 use lib.ListN.{length, getD, take, drop, drop-of-length-le}
 use borrow.Author.Tests.{le-leb, lt-leb, lt-ltb, eq-eqb, ne-eqb}
 use Rattle.number.specs.Reading.{Found, number, refused, leadingMore, valueOf, judged, numberAt}
-use Rattle.number.specs.Later.{judgedLater, laterAt}
+use Rattle.number.specs.Inner.{judgedLater, laterAt}
 use Rattle.number.proofs.Lists.{opened}
 
 -- a byte that says more, before what the rest gives

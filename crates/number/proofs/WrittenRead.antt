@@ -12,7 +12,7 @@ use lib.Seq.{take-append-seam}
 use borrow.Author.Tests.{ltb-true, ltb-false, leb-true, leb-false, eqb-true, eqb-false}
 use Rattle.number.specs.Form.{bytesFrom, bytesOf}
 use Rattle.number.specs.Reading.{Found, number, refused, numberAt}
-use Rattle.number.specs.Later.{laterAt}
+use Rattle.number.specs.Inner.{laterAt}
 use Rattle.number.proofs.Lists.{either, opened}
 use Rattle.number.proofs.Sizes.{from-last, from-more}
 use Rattle.number.proofs.Steps.{before, never, first-none, first-last, first-more, later-none, later-zero, later-last, later-more, later-no-more}

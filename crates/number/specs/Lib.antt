@@ -1,5 +1,6 @@
 pub mod Form
 pub mod Reading
-pub mod Later
+pub mod Sequence
+pub mod Inner
 pub mod Writing
 pub mod Mapping

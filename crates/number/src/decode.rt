@@ -2,7 +2,7 @@
 ghost use mathlib.Core.Path.{_≡_};
 ghost use Prim.Native.Nat.{_<_};
 ghost use Rattle.number.specs.Reading.{numberAt, told};
-ghost use Rattle.number.specs.Later.{laterAt, onto};
+ghost use Rattle.number.specs.Inner.{laterAt, onto};
 
 // What reading at a place gives: the number there, below 2^35, and the place after it; or the refusal, 10 or 11.
 pub enum Decoded {

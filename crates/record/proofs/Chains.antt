@@ -2,24 +2,24 @@
 -- a reading went through, `fair` says what a refusal is.
 use mathlib.Core.Path.{_≡_, refl, sym, _∙_, ap, subst}
 use mathlib.Core.Bool.{Bool, true, false}
-use mathlib.Core.List.{List, [], _∷_, _++_, append-assoc}
+use mathlib.Core.List.{List, [], _∷_}
 use mathlib.Core.Logic.{_⊎_, inl, inr, ⊎-elim}
 use Prim.Native.Nat.{ℕ, _^_, _<_, _≤_}
 use native.Mathlib.Omega.{arith}
 use lib.Dec.{ltb}
-use lib.ListN.{length, drop, length-drop}
+use lib.ListN.{length}
 use borrow.Author.Tests.{ltb-false, lt-ltb, le-ltb}
-use Rattle.number.specs.Form.{bytesOf, bytesOfAll}
 use Rattle.number.specs.Mapping.{mapped, unmapped}
 use Rattle.number.specs.Reading.{Found, number, refused, numberAt}
+use Rattle.number.specs.Sequence.{then}
 use Rattle.number.proofs.Lists.{either}
 use Rattle.number.proofs.Mapping.{mapped-unmapped}
-use Rattle.number.proofs.ReadWritten.{read-written, behind-written}
+use Rattle.number.proofs.Chain.{Ahead, ahead-first, ahead-rest, ahead-end, ahead-none}
 use Rattle.number.proofs.WrittenRead.{Holds, written-read}
 use Rattle.number.proofs.Extent.{refused-only}
 use Rattle.clock.specs.declared.state.Clock.{Clock}
 use Rattle.record.specs.Field.{judgedBy, fieldAt}
-use Rattle.record.specs.Reading.{then, ended, refusedWith, accepted}
+use Rattle.record.specs.Reading.{ended, refusedWith, accepted}
 use Rattle.record.specs.Properties.{Bytes, Refused}
 use Rattle.record.specs.declared.restore.Restored.{Restored}
 
@@ -44,42 +44,32 @@ module _ (range : ℕ → Bool) (s : List ℕ) (at : ℕ) where
 
   -- what then follows
   module _ (go : ℕ → ℕ → Restored) where
-    on-read : {v next : ℕ} → numberAt s at ≡ number v next → range v ≡ true → then (fieldAt range s at) go ≡ go v next
+    on-read : {v next : ℕ} → numberAt s at ≡ number v next → range v ≡ true → then refusedWith (fieldAt range s at) go ≡ go v next
     unfolding then
-    on-read e w = ap (λ (x : Found). then x go) (field-read e w)
+    on-read e w = ap (λ (x : Found). then refusedWith x go) (field-read e w)
 
-    on-outside : {v next : ℕ} → numberAt s at ≡ number v next → range v ≡ false → then (fieldAt range s at) go ≡ refusedWith 12
+    on-outside : {v next : ℕ} → numberAt s at ≡ number v next → range v ≡ false → then refusedWith (fieldAt range s at) go ≡ refusedWith 12
     unfolding then
-    on-outside e w = ap (λ (x : Found). then x go) (field-outside e w)
+    on-outside e w = ap (λ (x : Found). then refusedWith x go) (field-outside e w)
 
-    on-refused : {r : ℕ} → numberAt s at ≡ refused r → then (fieldAt range s at) go ≡ refusedWith r
+    on-refused : {r : ℕ} → numberAt s at ≡ refused r → then refusedWith (fieldAt range s at) go ≡ refusedWith r
     unfolding then
-    on-refused e = ap (λ (x : Found). then x go) (field-refused e)
+    on-refused e = ap (λ (x : Found). then refusedWith x go) (field-refused e)
 
 -- ---- what was written is read
 
--- from place `at` on, s is the numbers ns and then rest
-pub record Ahead (s : List ℕ) (at : ℕ) (ns rest : List ℕ) : Type 0 where
-  pub is : drop at s ≡ bytesOfAll ns ++ rest
-
-ahead-first : {s : List ℕ} {at n : ℕ} {ns rest : List ℕ} → Ahead s at (n ∷ ns) rest → drop at s ≡ bytesOf n ++ (bytesOfAll ns ++ rest)
-unfolding bytesOfAll
-ahead-first {n = n} {ns = ns} {rest = rest} a = a .is ∙ append-assoc (bytesOf n) (bytesOfAll ns) rest
-
 pub there : {s : List ℕ} {x : Restored} (range : ℕ → Bool) {at n : ℕ} {ns rest : List ℕ} (go : ℕ → ℕ → Restored) → n < 2 ^ 35 → range n ≡ true
-    → Ahead s at (n ∷ ns) rest → ((next : ℕ) → Ahead s next ns rest → go n next ≡ x) → then (fieldAt range s at) go ≡ x
-there {s} range {at} {n} {ns} {rest} go b w a on =
-    on-read range s at go (read-written s (bytesOfAll ns ++ rest) n at b (ahead-first a)) w
-    ∙ on _ (record { is = behind-written s (bytesOfAll ns ++ rest) n at (ahead-first a) })
+    → Ahead s at (n ∷ ns) rest → ((next : ℕ) → Ahead s next ns rest → go n next ≡ x) → then refusedWith (fieldAt range s at) go ≡ x
+there {s} range {at} go b w a on = on-read range s at go (ahead-first a b) w ∙ on _ (ahead-rest a)
 
 -- .. and the end: nothing follows, or something
 pub there-end : {s : List ℕ} {at : ℕ} (c : Clock) → Ahead s at [] [] → ended s at c ≡ accepted c
-unfolding ended bytesOfAll
-there-end {s} {at} c a = simp (le-ltb at (length s) (omega (arith, length-drop at s, ap length (a .is))))
+unfolding ended
+there-end {s} {at} c a = simp (le-ltb at (length s) (omega (arith, ahead-end a)))
 
 pub there-more : {s : List ℕ} {at : ℕ} {rest : List ℕ} (c : Clock) → 0 < length rest → Ahead s at [] rest → ended s at c ≡ refusedWith 13
-unfolding ended bytesOfAll
-there-more {s} {at} c h a = simp (lt-ltb at (length s) (omega (arith, length-drop at s, ap length (a .is))))
+unfolding ended
+there-more {s} {at} c h a = simp (lt-ltb at (length s) (omega (arith, ahead-end a)))
 
 -- ---- what is read was written
 
@@ -91,7 +81,7 @@ refused-some : (s : List ℕ) (at : ℕ) {r : ℕ} → numberAt s at ≡ refused
 refused-some s at e = ⊎-elim (λ h. (omega arith, omega arith)) (λ h. (omega arith, omega arith)) (refused-only s at e)
 
 module _ (s : List ℕ) (bytes : Bytes s) {c : Clock} {P : Type 0} where
-  was-found : (range : ℕ → Bool) (at : ℕ) (go : ℕ → ℕ → Restored) (x : Found) → numberAt s at ≡ x → then (fieldAt range s at) go ≡ accepted c
+  was-found : (range : ℕ → Bool) (at : ℕ) (go : ℕ → ℕ → Restored) (x : Found) → numberAt s at ≡ x → then refusedWith (fieldAt range s at) go ≡ accepted c
       → ((n next : ℕ) → Holds s at n next → range n ≡ true → go n next ≡ accepted c → P) → P
   was-found range at go (number n k) e f on =
       ⊎-elim (λ w. on n k (written-read s bytes at n k e) w (sym (on-read range s at go e w) ∙ f))
@@ -101,18 +91,18 @@ module _ (s : List ℕ) (bytes : Bytes s) {c : Clock} {P : Type 0} where
       let l : 10 ≤ r = refused-some s at e .0 in
       no {r = r} (omega arith) (on-refused range s at go e) f
 
-  pub was : (range : ℕ → Bool) {at : ℕ} (go : ℕ → ℕ → Restored) → then (fieldAt range s at) go ≡ accepted c
+  pub was : (range : ℕ → Bool) {at : ℕ} (go : ℕ → ℕ → Restored) → then refusedWith (fieldAt range s at) go ≡ accepted c
       → ((n next : ℕ) → Holds s at n next → range n ≡ true → go n next ≡ accepted c → P) → P
   was range {at} go e on = was-found range at go (numberAt s at) refl e on
 
 -- .. and the end: nothing is left, and the clock is what was put together
-pub was-end : (s : List ℕ) (at : ℕ) (d c : Clock) → ended s at d ≡ accepted c → (length s ≤ at) × (d ≡ c)
+pub was-end : (s : List ℕ) (at : ℕ) (d c : Clock) → ended s at d ≡ accepted c → Ahead s at [] [] × (d ≡ c)
 unfolding ended
 was-end s at d c e =
     ⊎-elim (λ (t : ltb at (length s) ≡ true). no {r = 13} {c = c} (omega arith) refl (simp t at e))
     (λ (t : ltb at (length s) ≡ false).
     let f : accepted d ≡ accepted c = simp t at e in
-    (ltb-false at (length s) t, ap (λ (y : Restored). y .clock) f))
+    (ahead-none s at (ltb-false at (length s) t), ap (λ (y : Restored). y .clock) f))
     (either (ltb at (length s)))
 
 -- a mapped number is that of what it is mapped from
@@ -134,7 +124,7 @@ fair-refused l h e =
 
 module _ (s : List ℕ) where
   fair-found : (range : ℕ → Bool) (at : ℕ) (go : ℕ → ℕ → Restored) (x : Found) → numberAt s at ≡ x → ((n next : ℕ) → Fair (go n next))
-      → Fair (then (fieldAt range s at) go)
+      → Fair (then refusedWith (fieldAt range s at) go)
   fair-found range at go (number n k) e on =
       ⊎-elim (λ w. subst Fair (sym (on-read range s at go e w)) (on n k))
       (λ w. fair-refused {r = 12} (omega arith) (omega arith) (on-outside range s at go e w))
@@ -143,7 +133,7 @@ module _ (s : List ℕ) where
       let b = refused-some s at e in
       fair-refused (b .0) (omega (arith, b .1)) (on-refused range s at go e)
 
-  pub fair : (range : ℕ → Bool) (at : ℕ) (go : ℕ → ℕ → Restored) → ((n next : ℕ) → Fair (go n next)) → Fair (then (fieldAt range s at) go)
+  pub fair : (range : ℕ → Bool) (at : ℕ) (go : ℕ → ℕ → Restored) → ((n next : ℕ) → Fair (go n next)) → Fair (then refusedWith (fieldAt range s at) go)
   fair range at go on = fair-found range at go (numberAt s at) refl on
 
   pub fair-end : (at : ℕ) (c : Clock) → Fair (ended s at c)

@@ -15,7 +15,7 @@ use Rattle.integers.proofs.Ranges.{and-true, true-and}
 use Rattle.number.specs.Form.{bytesOf, bytesFrom, bytesOfAll}
 use Rattle.number.specs.Mapping.{mapped, unmapped}
 use Rattle.number.proofs.Lists.{either}
-use Rattle.number.proofs.Chain.{_◂_, remaining-none}
+use Rattle.number.proofs.Chain.{Ahead, _◂_}
 use Rattle.number.proofs.Mapping.{unmapped-mapped}
 use Rattle.number.proofs.Sizes.{sizes-below, sizes-none}
 use Rattle.number.proofs.WrittenRead.{Holds}
@@ -31,7 +31,7 @@ use Rattle.record.specs.Properties.{freshRecord, greatestLength, Longest
 use Rattle.record.specs.declared.restore.Restored.{Restored}
 use Rattle.record.specs.declared.save.Saved.{Saved}
 use Rattle.record.proofs.SavingLaws.{out-of-range, too-short, stored}
-use Rattle.record.proofs.Chains.{Ahead, there, there-end, there-more, was, was-end, holds-mapped, fair, fair-end}
+use Rattle.record.proofs.Chains.{there, there-end, there-more, was, was-end, holds-mapped, fair, fair-end}
 
 -- ---- the fields of a clock in range
 
@@ -199,8 +199,8 @@ accepted-whole s b c e =
     subst (λ (d : Clock). (s ≡ recordOf d) × (inRange d ≡ true)) (end .1) (
       (
           first ◂ w1 ◂ w2 ◂ holds-mapped w3 ◂ holds-mapped w4 ◂ holds-mapped w5 ◂ holds-mapped w6 ◂ w7 ◂ w8 ◂ w9 ◂ w10 ◂ w11 ◂ w12
-          ◂ remaining-none s n12 (end .0)
-          ) .is,
+          ◂ end .0
+          ) .is ∙ append-nil _,
       fields-back _
           (record {
             seconds = r1;

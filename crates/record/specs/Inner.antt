@@ -7,10 +7,11 @@ use lib.Dec.{leb, eqb}
 use lib.Signed.{leZ}
 use Rattle.number.specs.Mapping.{unmapped}
 use Rattle.number.specs.Reading.{Found, number, refused}
+use Rattle.number.specs.Sequence.{then}
 use Rattle.clock.specs.Units.{micros, offsetUnits, phaseUnits, frequencyUnits}
 use Rattle.clock.specs.State.{lastSecond, offsetRange, frequencyRange, adjustmentRange, constantRange}
 use Rattle.clock.specs.declared.state.Clock.{Clock}
-use Rattle.record.specs.Reading.{refusedWith, then, ended, timeFields, updateFields, errorFields}
+use Rattle.record.specs.Reading.{refusedWith, ended, timeFields, updateFields, errorFields}
 use Rattle.record.specs.Field.{fieldAt, mappedRange}
 use Rattle.record.specs.declared.field.Field.{Field}
 use Rattle.record.specs.declared.field.Field.the-variants as F
@@ -32,11 +33,6 @@ betweenZ least most z = leZ least z && leZ z most
 -- numbers 0 to most, of signed numbers from least on
 abbrev pub fromTo : ℤ → ℕ → ℕ → Bool
 fromTo least most n = leb n most && leZ least (unmapped n)
-
--- the answer of a reading that a field ends
-abbrev pub refusedAs : Found → Restored
-refusedAs (number v next) = refusedWith 0
-refusedAs (refused n) = refusedWith n
 
 -- the largest second of an earlier update
 abbrev pub lastReftime : ℕ → ℕ
@@ -145,8 +141,8 @@ fromUpdate s at c = updatePart s at c
 
 abbrev pub ratePart : List ℕ → ℕ → Clock → Restored
 ratePart s at c =
-    then (fieldAt (mappedRange adjustmentRange) s at) (λ adjustment n1.
-    then (fieldAt constantRange s n1) (λ constant n2.
+    then refusedWith (fieldAt (mappedRange adjustmentRange) s at) (λ adjustment n1.
+    then refusedWith (fieldAt constantRange s n1) (λ constant n2.
     fromUpdate s n2 (withRate c adjustment constant)))
 
 unfoldable pub fromRate : List ℕ → ℕ → Clock → Restored
@@ -154,8 +150,8 @@ fromRate s at c = ratePart s at c
 
 abbrev pub loopPart : List ℕ → ℕ → Clock → Restored
 loopPart s at c =
-    then (fieldAt (mappedRange offsetRange) s at) (λ offset n1.
-    then (fieldAt (mappedRange frequencyRange) s n1) (λ frequency n2.
+    then refusedWith (fieldAt (mappedRange offsetRange) s at) (λ offset n1.
+    then refusedWith (fieldAt (mappedRange frequencyRange) s n1) (λ frequency n2.
     fromRate s n2 (withLoop c offset frequency)))
 
 unfoldable pub fromLoop : List ℕ → ℕ → Clock → Restored

@@ -6,7 +6,7 @@ use Prim.Native.Nat.{ℕ}
 use lib.Dec.{ltb}
 use lib.ListN.{length}
 use Rattle.number.specs.Mapping.{unmapped}
-use Rattle.number.specs.Reading.{Found, number, refused}
+use Rattle.number.specs.Sequence.{then}
 use Rattle.clock.specs.Units.{micros, offsetUnits, phaseUnits, frequencyUnits}
 use Rattle.clock.specs.State.{freshClock, secondRange, microsRange, phaseRange, offsetRange, frequencyRange, adjustmentRange, constantRange, flagRange, zeroUnlessFlag, errorRange, statusRange}
 use Rattle.clock.specs.declared.state.Clock.{Clock}
@@ -21,11 +21,6 @@ refusedWith n = record { refusal = n; clock = freshClock }
 abbrev pub accepted : Clock → Restored
 accepted c = record { refusal = 0; clock = c }
 
--- A field that was read hands its number and the place after it on; one that fails to read "ends the reading with its number".
-unfoldable pub then : Found → (ℕ → ℕ → Restored) → Restored
-then (number v next) rest = rest v next
-then (refused n) rest = refusedWith n
-
 -- 13 "bytes after a record's end"
 unfoldable pub ended : List ℕ → ℕ → Clock → Restored
 ended s at c = cond (ltb at (length s)) (refusedWith 13) (accepted c)
@@ -35,18 +30,18 @@ ended s at c = cond (ltb at (length s)) (refusedWith 13) (accepted c)
 -- seconds, microseconds, phase
 abbrev pub timeFields : List ℕ → ℕ → (ℕ → ℕ → ℕ → ℕ → Restored) → Restored
 timeFields s at rest =
-    then (fieldAt secondRange s at) (λ seconds n1.
-    then (fieldAt microsRange s n1) (λ us n2.
-    then (fieldAt (mappedRange phaseRange) s n2) (λ phase n3.
+    then refusedWith (fieldAt secondRange s at) (λ seconds n1.
+    then refusedWith (fieldAt microsRange s n1) (λ us n2.
+    then refusedWith (fieldAt (mappedRange phaseRange) s n2) (λ phase n3.
     rest seconds us phase n3)))
 
 -- offset left, frequency, adjustment per tick, time constant
 abbrev pub loopFields : List ℕ → ℕ → (ℕ → ℕ → ℕ → ℕ → ℕ → Restored) → Restored
 loopFields s at rest =
-    then (fieldAt (mappedRange offsetRange) s at) (λ offset n1.
-    then (fieldAt (mappedRange frequencyRange) s n1) (λ frequency n2.
-    then (fieldAt (mappedRange adjustmentRange) s n2) (λ adjustment n3.
-    then (fieldAt constantRange s n3) (λ constant n4.
+    then refusedWith (fieldAt (mappedRange offsetRange) s at) (λ offset n1.
+    then refusedWith (fieldAt (mappedRange frequencyRange) s n1) (λ frequency n2.
+    then refusedWith (fieldAt (mappedRange adjustmentRange) s n2) (λ adjustment n3.
+    then refusedWith (fieldAt constantRange s n3) (λ constant n4.
     rest offset frequency adjustment constant n4))))
 
 -- the second of the earlier update: "0 if flag 0"
@@ -56,22 +51,22 @@ reftimeRange flag n = secondRange n && zeroUnlessFlag flag n
 -- earlier update: flag, its second
 abbrev pub updateFields : List ℕ → ℕ → (ℕ → ℕ → ℕ → Restored) → Restored
 updateFields s at rest =
-    then (fieldAt flagRange s at) (λ flag n1.
-    then (fieldAt (reftimeRange flag) s n1) (λ reftime n2.
+    then refusedWith (fieldAt flagRange s at) (λ flag n1.
+    then refusedWith (fieldAt (reftimeRange flag) s n1) (λ reftime n2.
     rest flag reftime n2))
 
 -- maximum error, estimated error, status
 abbrev pub errorFields : List ℕ → ℕ → (ℕ → ℕ → ℕ → ℕ → Restored) → Restored
 errorFields s at rest =
-    then (fieldAt errorRange s at) (λ maxerror n1.
-    then (fieldAt errorRange s n1) (λ esterror n2.
-    then (fieldAt statusRange s n2) (λ status n3.
+    then refusedWith (fieldAt errorRange s at) (λ maxerror n1.
+    then refusedWith (fieldAt errorRange s n1) (λ esterror n2.
+    then refusedWith (fieldAt statusRange s n2) (λ status n3.
     rest maxerror esterror status n3)))
 
 -- the version first, then the fields, then nothing more
 abbrev pub numbersFrom : List ℕ → Restored
 numbersFrom s =
-    then (fieldAt knownVersion s 0) (λ version n0.
+    then refusedWith (fieldAt knownVersion s 0) (λ version n0.
     timeFields s n0 (λ seconds us phase n3.
     loopFields s n3 (λ offset frequency adjustment constant n7.
     updateFields s n7 (λ flag reftime n9.

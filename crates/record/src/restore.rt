@@ -1,7 +1,8 @@
 // Reading a clock's record.
 ghost use mathlib.Core.Path.{_≡_};
 ghost use Rattle.record.specs.Reading.{readingOf, refusedWith};
-ghost use Rattle.record.specs.Inner.{toldField, refusedAs, lastReftime, fromTime, fromLoop, fromRate, fromUpdate, fromErrors};
+ghost use Rattle.number.specs.Inner.{refusedAs};
+ghost use Rattle.record.specs.Inner.{toldField, lastReftime, fromTime, fromLoop, fromRate, fromUpdate, fromErrors};
 use crate::assemble::with_errors;
 use crate::assemble::with_loop;
 use crate::assemble::with_rate;
@@ -50,11 +51,11 @@ fn refused_with(n: u8) -> Restored
 
 // The answer of a reading that this field ends.
 fn refused(d: Field) -> Restored
-    ensures { λ r. ⌜ r ≡ refusedAs (toldField d) ⌝ }
+    ensures { λ r. ⌜ r ≡ refusedAs refusedWith (toldField d) ⌝ }
 {
     match d {
         Field::Refused(n) => refused_with(n),
-        Field::Value(_, _) => refused_with(0),
+        Field::Value(_, _) => refused_with(12),
     }
 }
 

@@ -4,7 +4,7 @@ use Prim.Native.Nat.{ℕ, _+_, _*_, _-_, _%_, _<_, _≤_}
 use native.Mathlib.Omega.{arith}
 use borrow.Author.Needs.{needs}
 use Rattle.number.specs.Reading.{Found, number, refused, numberAt}
-use Rattle.number.specs.Later.{laterAt, onto}
+use Rattle.number.specs.Inner.{laterAt, onto}
 use Rattle.number.proofs.Steps.{before, first-none, first-last, first-more, later-none, later-zero, later-last, later-more}
 use Rattle.number.proofs.decode.read.Statement.{statement}
 use Rattle.number.proofs.decode.read.Tie as tie

@@ -7,7 +7,7 @@ use native.Mathlib.Nat.{mul-add, mul-assoc, add-assoc, pow-succ', one-le-pow, le
 use native.Mathlib.Omega.{arith}
 use borrow.Author.Needs.{needs}
 use Rattle.number.specs.Reading.{Found, number, refused}
-use Rattle.number.specs.Later.{laterAt, onto}
+use Rattle.number.specs.Inner.{laterAt, onto}
 use Rattle.number.proofs.Steps.{before, later-none, later-zero, later-last, later-more, later-no-more}
 use Rattle.number.proofs.decode.read_long.Statement.{statement}
 use Rattle.number.proofs.decode.read_long.Tie as tie

@@ -7,10 +7,12 @@ use Prim.Native.Nat.{ℕ}
 use lib.Dec.{lit<}
 use Rattle.clock.specs.declared.state.Clock.{Clock}
 use Rattle.record.specs.Reading.{accepted}
-use Rattle.record.specs.Inner.{upTo, errorPart, fromErrors}
+use Rattle.number.proofs.Sequence.{Before, went, stopped}
+use Rattle.record.specs.Inner.{toldField, upTo, errorPart, fromErrors}
 use Rattle.record.proofs.Ranges.{byte}
 use Rattle.record.proofs.FieldLaws.{read-in}
-use Rattle.record.proofs.Steps.{Before, AtEnd, went, stopped, ended-more, ended-whole}
+use Rattle.record.proofs.Steps.{AtEnd, ended-more, ended-whole}
+use Rattle.record.specs.declared.restore.Restored.{Restored}
 use Rattle.record.proofs.restore.error_fields.Statement.{statement}
 use Rattle.record.proofs.restore.error_fields.Tie as tie
 
@@ -18,26 +20,26 @@ opened : (s : List ℕ) (at : ℕ) (c : Clock) → fromErrors s at c ≡ errorPa
 unfolding fromErrors
 opened s at c = refl
 
-abbrev b10 : tie.After-shared-slice-known → Before
-b10 c = record { all = _; field = _; rest = _; is = opened (c .before .args .bytes .now) (c .before .args .at) (c .before .args .c) }
+abbrev b10 : tie.After-shared-slice-known → Before Restored
+b10 c = record { all = _; ends = _; found = _; go = _; is = opened (c .before .args .bytes .now) (c .before .args .at) (c .before .args .c) }
 
-abbrev b11 : tie.After-known-told → Before
-b11 c = record { all = _; field = _; rest = _; is = went (b10 (c .before .before .before .before)) (c .before .before .before .plain .ensures) (c .before .d10 .given .1) }
+abbrev b11 : tie.After-known-told → Before Restored
+b11 c = record { all = _; ends = _; found = _; go = _; is = went (b10 (c .before .before .before .before)) (c .before .before .before .plain .ensures) (ap toldField (c .before .d10 .given .1)) }
 
-abbrev b12 : tie.After-known-told2 → Before
-b12 c = record { all = _; field = _; rest = _; is = went (b11 (c .before .before .before .before)) (c .before .before .before .plain2 .ensures) (c .before .d11 .given .1) }
+abbrev b12 : tie.After-known-told2 → Before Restored
+b12 c = record { all = _; ends = _; found = _; go = _; is = went (b11 (c .before .before .before .before)) (c .before .before .before .plain2 .ensures) (ap toldField (c .before .d11 .given .1)) }
 
 abbrev b13 : tie.After-known-told3 → AtEnd
-b13 c = record { all = _; bytes = _; at = _; clock = _; is = went (b12 (c .before .before .before .before)) (c .before .before .before .plain3 .ensures) (c .before .d12 .given .1) }
+b13 c = record { all = _; bytes = _; at = _; clock = _; is = went (b12 (c .before .before .before .before)) (c .before .before .before .plain3 .ensures) (ap toldField (c .before .d12 .given .1)) }
 
 returns : tie.Need-returns
-returns c = stopped (b10 (c .before .before .before .before)) (c .before .before .before .plain .ensures) (c .before .enum-told .given .1) (c .refused .ensures)
+returns c = stopped (b10 (c .before .before .before .before)) (c .before .before .before .plain .ensures) (ap toldField (c .before .enum-told .given .1)) (c .refused .ensures)
 
 returns-2 : tie.Need-returns-2
-returns-2 c = stopped (b11 (c .before .before .before .before)) (c .before .before .before .plain2 .ensures) (c .before .enum-told2 .given .1) (c .refused2 .ensures)
+returns-2 c = stopped (b11 (c .before .before .before .before)) (c .before .before .before .plain2 .ensures) (ap toldField (c .before .enum-told2 .given .1)) (c .refused2 .ensures)
 
 returns-3 : tie.Need-returns-3
-returns-3 c = stopped (b12 (c .before .before .before .before)) (c .before .before .before .plain3 .ensures) (c .before .enum-told3 .given .1) (c .refused3 .ensures)
+returns-3 c = stopped (b12 (c .before .before .before .before)) (c .before .before .before .plain3 .ensures) (ap toldField (c .before .enum-told3 .given .1)) (c .refused3 .ensures)
 
 returns-4 : tie.Need-returns-4
 returns-4 c = c .refused-with .ensures ∙ ended-more (b13 (c .before .before)) (c .before .if1 .taken)

@@ -1,14 +1,15 @@
 -- `record::restore::update_fields` meets its contract. Before each field a law says where the reading stands; a field that was read
 -- takes it to the next, and one that was refused ends it.
-use mathlib.Core.Path.{_≡_, refl, sym, _∙_}
+use mathlib.Core.Path.{_≡_, refl, sym, _∙_, ap}
 use mathlib.Core.List.{List}
 use Prim.Native.Nat.{ℕ}
 use lib.Dec.{lit<}
 use Rattle.clock.specs.declared.state.Clock.{Clock}
-use Rattle.record.specs.Inner.{upTo, updatePart, fromUpdate}
+use Rattle.number.proofs.Sequence.{Before, went, stopped}
+use Rattle.record.specs.Inner.{toldField, upTo, updatePart, fromUpdate}
 use Rattle.record.proofs.Ranges.{byte}
 use Rattle.record.proofs.FieldLaws.{read-in, reftime-field}
-use Rattle.record.proofs.Steps.{Before, went, stopped}
+use Rattle.record.specs.declared.restore.Restored.{Restored}
 use Rattle.record.proofs.restore.update_fields.Statement.{statement}
 use Rattle.record.proofs.restore.update_fields.Tie as tie
 
@@ -16,20 +17,20 @@ opened : (s : List ℕ) (at : ℕ) (c : Clock) → fromUpdate s at c ≡ updateP
 unfolding fromUpdate
 opened s at c = refl
 
-abbrev b8 : tie.After-shared-slice-known → Before
-b8 c = record { all = _; field = _; rest = _; is = opened (c .before .args .bytes .now) (c .before .args .at) (c .before .args .c) }
+abbrev b8 : tie.After-shared-slice-known → Before Restored
+b8 c = record { all = _; ends = _; found = _; go = _; is = opened (c .before .args .bytes .now) (c .before .args .at) (c .before .args .c) }
 
-abbrev b9 : tie.After-known-told → Before
-b9 c = record { all = _; field = _; rest = _; is = went (b8 (c .before .before .before .before)) (c .before .before .before .plain .ensures) (c .before .d8 .given .1) }
+abbrev b9 : tie.After-known-told → Before Restored
+b9 c = record { all = _; ends = _; found = _; go = _; is = went (b8 (c .before .before .before .before)) (c .before .before .before .plain .ensures) (ap toldField (c .before .d8 .given .1)) }
 
 returns : tie.Need-returns
-returns c = stopped (b8 (c .before .before .before .before)) (c .before .before .before .plain .ensures) (c .before .enum-told .given .1) (c .refused .ensures)
+returns c = stopped (b8 (c .before .before .before .before)) (c .before .before .before .plain .ensures) (ap toldField (c .before .enum-told .given .1)) (c .refused .ensures)
 
 returns-2 : tie.Need-returns-2
 returns-2 c =
     stopped (b9 (c .before .before .before .before .before))
     (c .before .before .before .plain2 .ensures ∙ reftime-field _ _ (c .before .before .before .before .before .before .d8 .given .0 .0) (c .before .before .before .before .last-reftime .ensures))
-    (c .before .enum-told2 .given .1) (c .refused2 .ensures)
+    (ap toldField (c .before .enum-told2 .given .1)) (c .refused2 .ensures)
 
 cast-with-update : tie.Need-cast-with-update
 cast-with-update c =
@@ -41,7 +42,7 @@ returns-3 c =
     let d = c .before .before in
     c .error-fields .ensures
     ∙ rw (c .before .with-update .ensures)
-    (sym (went (b9 (d .before .before .before .before .before)) (d .before .before .before .plain2 .ensures ∙ reftime-field _ _ (d .before .before .before .before .before .before .d8 .given .0 .0) (d .before .before .before .before .last-reftime .ensures)) (d .before .d9 .given .1)))
+    (sym (went (b9 (d .before .before .before .before .before)) (d .before .before .before .plain2 .ensures ∙ reftime-field _ _ (d .before .before .before .before .before .before .d8 .given .0 .0) (d .before .before .before .before .last-reftime .ensures)) (ap toldField (d .before .d9 .given .1))))
 
 pub update-fields-spec : {M : Type 1} → statement M
 update-fields-spec =

@@ -1,4 +1,5 @@
--- What the reader's private routine for long numbers gives. No public promise names these definitions.
+-- What private functions answer, of this crate and of those that read numbers one after the other. No public promise names these
+-- definitions.
 use mathlib.Core.Bool.{cond}
 use mathlib.Core.List.{List}
 use Prim.Native.Nat.{ℕ, suc, _+_, _*_}
@@ -22,3 +23,9 @@ laterAt left s at = judgedLater left at (drop at s) (leadingMore (drop at s))
 abbrev pub onto : ℕ → ℕ → Found → Found
 onto low scale (number v k) = number (low + scale * v) k
 onto low scale (refused refusal) = refused refusal
+
+-- The answer of a reading that a refusal ends. No reading ends with a number, so that the case of one is never reached: it refuses too,
+-- with 12.
+abbrev pub refusedAs : {A : Type 0} → (ℕ → A) → Found → A
+refusedAs ends (number value next) = ends 12
+refusedAs ends (refused refusal) = ends refusal
