@@ -8,10 +8,11 @@ use lib.Dec.{eqb}
 use lib.ListN.{length}
 use Rattle.number.specs.Reading.{Found as Number, number, numberAt}
 use Rattle.number.specs.Reading.{refused as noNumber}
+use Rattle.number.specs.Sequence.{then}
 use Rattle.number.proofs.Extent.{Extent, extent}
 use Rattle.request.specs.Request.{bitSet}
 use Rattle.history.specs.declared.Event.{Event}
-use Rattle.history.specs.Event.{Found, found, refused, then, fieldAt, ticksAt, settingAt, requestAt, argumentsAt, eventAt}
+use Rattle.history.specs.Event.{Found, found, refused, fieldAt, ticksAt, settingAt, requestAt, argumentsAt, eventAt}
 
 module _ (s : List ℕ) (at : ℕ) where
   -- a place after `at`, at most at the end
@@ -24,7 +25,7 @@ module _ (s : List ℕ) (at : ℕ) where
   Ends (found e next) = Past next
   Ends (refused n) = Unit {0}
 
-  then-ends : (x : Number) (go : ℕ → ℕ → Found) → ((v k : ℕ) → x ≡ number v k → Ends (go v k)) → Ends (then x go)
+  then-ends : (x : Number) (go : ℕ → ℕ → Found) → ((v k : ℕ) → x ≡ number v k → Ends (go v k)) → Ends (then refused x go)
   unfolding then
   then-ends (number v k) go f = f v k refl
   then-ends (noNumber r) go f = tt

@@ -9,7 +9,7 @@ use Rattle.clock.specs.declared.units.AskedMicros.{AskedMicros}
 use Rattle.event.specs.declared.event.Event.the-variants.{Setting, Request, Reading}
 use Rattle.number.specs.Mapping.{unmapped}
 use Rattle.number.specs.Reading.{Found as Number, number, numberAt}
-use Rattle.number.specs.Reading.{refused as noNumber}
+use Rattle.number.specs.Sequence.{then}
 use Rattle.request.specs.Request.{bitSet, modeBits}
 use Rattle.request.specs.declared.units.AskedOffset.{AskedOffset}
 use Rattle.request.specs.declared.units.AskedFrequency.{AskedFrequency}
@@ -28,11 +28,6 @@ abbrev pub told : Entry → Found
 told (E.Whole event next) = found event next
 told (E.Refused refusal) = refused refusal
 
--- a number that was read goes on with its value and the place after it; its refusal, 10 or 11, is that of the event
-unfoldable pub then : Number → (ℕ → ℕ → Found) → Found
-then (number value next) go = go value next
-then (noNumber refusal) go = refused refusal
-
 abbrev pub askedMicros : ℕ → AskedMicros
 askedMicros n = record { 0 = n }
 
@@ -49,15 +44,17 @@ offsetAsked n = offsetMicros (unmapped n)
 abbrev pub frequencyAsked : ℕ → AskedFrequency
 frequencyAsked n = askedFrequency (unmapped n)
 
+-- Each number's refusal, 10 or 11, is that of the event.
+
 -- "`0 n` up to n single ticks"
 unfoldable pub ticksAt : List ℕ → ℕ → Found
-ticksAt s at = then (numberAt s at) (λ n next. found (Ticks n) next)
+ticksAt s at = then refused (numberAt s at) (λ n next. found (Ticks n) next)
 
 -- "`1 s u` setting" (s, us)
 unfoldable pub settingAt : List ℕ → ℕ → Found
 settingAt s at =
-    then (numberAt s at) (λ seconds n0.
-    then (numberAt s n0) (λ micros next.
+    then refused (numberAt s at) (λ seconds n0.
+    then refused (numberAt s n0) (λ micros next.
     found (Call (Setting seconds (askedMicros micros))) next))
 
 -- the field that a bit of the mode selects; a field that is not selected has no bytes and is 0
@@ -67,12 +64,12 @@ fieldAt mode bit s at = cond (bitSet mode bit) (numberAt s at) (number 0 at)
 -- "the selected fields in order of mode bit", for the bits of a mode
 abbrev pub fieldsAt : ℕ → ℕ → List ℕ → ℕ → Found
 fieldsAt mode bits s n0 =
-    then (fieldAt bits (modeBits .offset) s n0) (λ offset n1.
-    then (fieldAt bits (modeBits .frequency) s n1) (λ frequency n2.
-    then (fieldAt bits (modeBits .maxerror) s n2) (λ maxerror n3.
-    then (fieldAt bits (modeBits .esterror) s n3) (λ esterror n4.
-    then (fieldAt bits (modeBits .status) s n4) (λ status n5.
-    then (fieldAt bits (modeBits .constant) s n5) (λ constant next.
+    then refused (fieldAt bits (modeBits .offset) s n0) (λ offset n1.
+    then refused (fieldAt bits (modeBits .frequency) s n1) (λ frequency n2.
+    then refused (fieldAt bits (modeBits .maxerror) s n2) (λ maxerror n3.
+    then refused (fieldAt bits (modeBits .esterror) s n3) (λ esterror n4.
+    then refused (fieldAt bits (modeBits .status) s n4) (λ status n5.
+    then refused (fieldAt bits (modeBits .constant) s n5) (λ constant next.
     found (Call (Request (record {
       mode = mode;
       offset = offsetAsked offset;
@@ -85,7 +82,7 @@ fieldsAt mode bits s n0 =
 
 -- "`2 mode` and the selected fields .. (a mode above 63 brings the fields of mode mod 64 ..)": the request keeps the mode as it was given
 unfoldable pub requestAt : List ℕ → ℕ → Found
-requestAt s at = then (numberAt s at) (λ mode n0. fieldsAt mode (mode % 64) s n0)
+requestAt s at = then refused (numberAt s at) (λ mode n0. fieldsAt mode (mode % 64) s n0)
 
 -- the arguments that an event's code brings; 12 "unknown .. event code"
 unfoldable pub argumentsAt : ℕ → List ℕ → ℕ → Found
@@ -98,4 +95,4 @@ argumentsAt code s at =
 
 -- the event at place `at` of s; where s ends before the event does, 10 "bytes end inside a record or event"
 unfoldable pub eventAt : List ℕ → ℕ → Found
-eventAt s at = then (numberAt s at) (λ code next. argumentsAt code s next)
+eventAt s at = then refused (numberAt s at) (λ code next. argumentsAt code s next)

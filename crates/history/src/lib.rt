@@ -2,9 +2,9 @@
 ghost use mathlib.Core.Path.{_≡_};
 ghost use Prim.Native.Nat.{_%_, _<_};
 ghost use Rattle.number.specs.Reading.{told as Number·told};
+ghost use Rattle.number.specs.Inner.{refusedAs};
 ghost use Rattle.history.specs.declared.Event.the-variants.{Call};
-ghost use Rattle.history.specs.Event.{found, told, offsetAsked, frequencyAsked, fieldAt, ticksAt, settingAt, requestAt, eventAt};
-ghost use Rattle.history.specs.Inner.{refusedAs};
+ghost use Rattle.history.specs.Event.{found, refused, told, offsetAsked, frequencyAsked, fieldAt, ticksAt, settingAt, requestAt, eventAt};
 use clock::AskedMicros;
 use number::Decoded;
 use number::unmap;
@@ -37,7 +37,7 @@ const UNKNOWN: u8 = 12;
 
 // The refusal of a number ends the reading of its event.
 fn refusal_of(d: Decoded) -> Entry
-    ensures { λ r. ⌜ told r ≡ refusedAs d ⌝ }
+    ensures { λ r. ⌜ told r ≡ refusedAs refused (Number·told d) ⌝ }
 {
     match d {
         Decoded::Refused(n) => Entry::Refused(n),

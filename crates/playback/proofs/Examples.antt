@@ -9,10 +9,11 @@ use Rattle.clock.specs.Tick.{ticked, tickRefusal, tickOf}
 use Rattle.clock.specs.Reading.{readingRefusal, readingOf}
 use Rattle.request.specs.Request.{requestRefusal, requestOf}
 use Rattle.number.specs.Reading.{leadingMore, valueOf, judged, numberAt}
+use Rattle.number.specs.Sequence.{then}
 use Rattle.number.specs.Mapping.{unmapped}
 use Rattle.label.specs.Label.{labelOf}
 use Rattle.clock.specs.Ticks.{ticksOf}
-use Rattle.history.specs.Event.{then, fieldAt, ticksAt, requestAt, argumentsAt, eventAt}
+use Rattle.history.specs.Event.{fieldAt, ticksAt, requestAt, argumentsAt, eventAt}
 use Rattle.playback.specs.Lines.{decimalFrom, decimal, refusedLine, logLine, printLine}
 use Rattle.playback.specs.Event.{outcomeOf, printedBy, printed, lineOf}
 use Rattle.playback.specs.Run.{step, runAfter, linesOf, replayOf}

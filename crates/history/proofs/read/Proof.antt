@@ -1,27 +1,28 @@
 -- `history::read` meets its contract: the number of the event's code, and then what the code brings.
-use mathlib.Core.Path.{_≡_, refl, sym, _∙_}
+use mathlib.Core.Path.{_≡_, refl, sym, _∙_, ap}
 use mathlib.Core.List.{List}
 use Prim.Native.Nat.{ℕ}
 use borrow.Author.Tests.{ne-eqb}
-use Rattle.number.specs.Reading.{numberAt}
-use Rattle.history.specs.Event.{Found, then, argumentsAt, eventAt}
-use Rattle.history.proofs.Steps.{Before, went, stopped}
+use Rattle.number.specs.Reading.{numberAt, told}
+use Rattle.number.specs.Sequence.{then}
+use Rattle.history.specs.Event.{refused, Found, argumentsAt, eventAt}
+use Rattle.number.proofs.Sequence.{Before, went, stopped}
 use borrow.Author.Needs.{needs}
 use Rattle.history.proofs.read.Statement.{statement}
 use Rattle.history.proofs.read.Tie as tie
 
-opened : (s : List ℕ) (at : ℕ) → eventAt s at ≡ then (numberAt s at) (λ code next. argumentsAt code s next)
+opened : (s : List ℕ) (at : ℕ) → eventAt s at ≡ then refused (numberAt s at) (λ code next. argumentsAt code s next)
 unfolding eventAt
 opened s at = refl
 
-abbrev b0 : tie.After-shared-slice-known → Before
-b0 c = record { all = _; field = _; go = _; is = opened (c .before .args .bytes .now) (c .before .args .at) }
+abbrev b0 : tie.After-shared-slice-known → Before Found
+b0 c = record { all = _; ends = _; found = _; go = _; is = opened (c .before .args .bytes .now) (c .before .args .at) }
 
 -- the code was read, and x is what it brings
 brought : (c : tie.After-known-told) {x : Found}
     → let a = c .before .before .before .before .before .args in
     x ≡ argumentsAt (c .before .d .given .0 .0) (a .bytes .now) (c .before .d .given .0 .1 .0) → x ≡ eventAt (a .bytes .now) (a .at)
-brought c e = e ∙ sym (went (b0 (c .before .before .before .before)) (c .before .before .before .read .ensures) (c .before .d .given .1))
+brought c e = e ∙ sym (went (b0 (c .before .before .before .before)) (c .before .before .before .read .ensures) (ap told (c .before .d .given .1)))
 
 read-requires : tie.Need-read-requires
 read-requires c κs = search needs
@@ -36,7 +37,7 @@ refusal-of-requires : tie.Need-refusal-of-requires
 refusal-of-requires c κs = search needs
 
 returns : tie.Need-returns
-returns c = stopped (b0 (c .before .before .before .before)) (c .before .before .before .read .ensures) (c .before .enum-told .given .1) (c .refusal-of .ensures)
+returns c = stopped (b0 (c .before .before .before .before)) (c .before .before .before .read .ensures) (ap told (c .before .enum-told .given .1)) (c .refusal-of .ensures)
 
 ticks-at-requires : tie.Need-ticks-at-requires
 ticks-at-requires c κs = search needs
