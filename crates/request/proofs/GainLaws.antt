@@ -1,7 +1,7 @@
 -- The numbers of a frequency gain fit 32 bits, and a clamped frequency is in its range.
 use mathlib.Core.Path.{_≡_, refl}
 use mathlib.Core.Bool.{Bool, true, false, cond}
-use Prim.Native.Nat.{ℕ, _+_, _-_, _*_, _≤_, _<_, min}
+use Prim.Native.Nat.{ℕ, _-_, _*_, _≤_, _<_, min}
 use native.Mathlib.Omega.{arith}
 use native.Mathlib.Nat.{one-le-pow, pow-le-pow-right, mul-le-mul, div-le-self, lt-of-le-of-lt}
 use lib.Dec.{eqb, lit<}
