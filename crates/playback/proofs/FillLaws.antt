@@ -1,6 +1,6 @@
 -- A buffer that is filled by steps of a run, one after the other.
 use mathlib.Core.Path.{_≡_, refl, sym, _∙_, ap}
-use mathlib.Core.Bool.{Bool, true, false, not, _&&_}
+use mathlib.Core.Bool.{Bool, true, false, not, _&&_, _||_}
 use mathlib.Core.List.{List}
 use mathlib.Core.Logic.{_⊎_, inl, inr, ⊎-elim}
 use Prim.Native.Nat.{ℕ, zero, suc, _+_, _-_, _<_, _≤_}
@@ -17,6 +17,16 @@ use Rattle.playback.specs.declared.run.Step.{Step}
 use Rattle.playback.specs.declared.run.Filling.{Filling}
 use Rattle.playback.proofs.Buffers.{puts-take, puts-drop, puts-length}
 use Rattle.playback.proofs.RunLaws.{run-more, lines-more, left, left-less, steps-less}
+
+-- no event is left to run, though the history is not too long: its bytes end
+pub either-end : (a b : Bool) → (a || b) ≡ true → b ≡ false → a ≡ true
+either-end true b t f = refl
+either-end false b t f = sym f ∙ t
+
+-- an event is left to run
+pub neither : (a b : Bool) → (a || b) ≡ false → (a ≡ false) × (b ≡ false)
+neither true b t = absurd (let w : _≡_ {A = ℕ} 0 1 = cc in omega arith)
+neither false b t = (refl, t)
 
 -- the loop does not go on: the run has ended, or there is no room
 halts : (b c : Bool) → (not b && c) ≡ false → (b ≡ true) ⊎ (c ≡ false)

@@ -1,9 +1,9 @@
 -- What the crate's private functions promise. No public promise names these.
 use mathlib.Core.Path.{_≡_}
-use mathlib.Core.Bool.{Bool, true, false, cond}
+use mathlib.Core.Bool.{Bool, true, false, cond, _||_}
 use mathlib.Core.List.{List, []}
 use Prim.Native.Nat.{ℕ, _+_, _≤_}
-use lib.Dec.{eqb}
+use lib.Dec.{eqb, leb, ltb}
 use lib.ListN.{length}
 use lib.Seq.{sets}
 use Rattle.clock.specs.declared.state.Clock.{Clock}
@@ -12,7 +12,7 @@ use Rattle.event.specs.declared.event.Event.the-variants.{Tick, Setting, Reques
 use Rattle.history.specs.declared.Event.{Event}
 use Rattle.playback.specs.Lines.{refusedLine}
 use Rattle.playback.specs.Event.{outcomeOf, lineOf}
-use Rattle.playback.specs.Run.{step}
+use Rattle.playback.specs.Run.{longestHistory, step}
 use Rattle.playback.specs.Filling.{longestLine}
 use Rattle.playback.specs.declared.run.Run.{Run}
 use Rattle.playback.specs.declared.run.Done.{Done}
@@ -42,6 +42,10 @@ pub record RunsEvent (c : Clock) (e : Event) (buf : List ℕ) (at : ℕ) (buf′
 -- the run ends at its place, with `at` for the place after what the step wrote
 abbrev pub endedAt : Clock → ℕ → ℕ → Step
 endedAt c place at = record { run = record { clock = c; place = place; ended = true }; at = at }
+
+-- a run over s has no event to run at this place
+abbrev pub noEvent : List ℕ → ℕ → Bool
+noEvent s place = leb (length s) place || ltb longestHistory (length s)
 
 -- a step of a run was made, and its line was put
 pub record Steps (s : List ℕ) (run : Run) (buf : List ℕ) (at : ℕ) (buf′ : List ℕ) (r : Step) : Type 0 where

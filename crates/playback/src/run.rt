@@ -1,12 +1,12 @@
 // A run over a history, from a fresh clock, in calls that each fill a lent buffer with whole lines.
 ghost use mathlib.Core.Path.{_≡_};
-ghost use mathlib.Core.Bool.{false};
+ghost use mathlib.Core.Bool.{true, false};
 ghost use Prim.Native.Nat.{_+_, _≤_};
 ghost use lib.ListN.{length};
 ghost use Rattle.history.specs.declared.Event.the-variants.{Call};
 ghost use Rattle.playback.specs.Run.{startOfRun};
 ghost use Rattle.playback.specs.Filling.{longestLine, runLimits, Fills};
-ghost use Rattle.playback.specs.Inner.{isReading, RunsEvent, endedAt, Steps};
+ghost use Rattle.playback.specs.Inner.{isReading, RunsEvent, endedAt, noEvent, Steps};
 use crate::lines::put_log;
 use crate::lines::put_print;
 use crate::lines::put_refused;
@@ -131,6 +131,20 @@ fn ended_at(c: Clock, place: usize, at: usize) -> Step
     Step { run: run, at: at }
 }
 
+// Ends a run that has no event to run: the history is too long, or its bytes end.
+fn finish(bytes: &[u8], run: Run, out: &mut [u8], at: usize) -> Step
+    requires { ⌜ (at + longestLine ≤ length (now out)) × (run .ended ≡ false) × (noEvent (now bytes) (run .place) ≡ true) ⌝ }
+    ensures { λ r. ⌜ Steps (now (bytes .entry)) run (now (out .entry)) at (now (out .exit)) r ⌝ }
+{
+    let c = run.clock;
+    let place = run.place;
+    if LONGEST_HISTORY < bytes.len() {
+        let next = put_log(out, at, 13, LONGEST_HISTORY as u32);
+        return ended_at(c, place, next);
+    }
+    ended_at(c, place, at)
+}
+
 // Runs what stands at the run's place.
 fn advance(bytes: &[u8], run: Run, out: &mut [u8], at: usize) -> Step
     requires { ⌜ (at + longestLine ≤ length (now out)) × (run .ended ≡ false) ⌝ }
@@ -139,12 +153,8 @@ fn advance(bytes: &[u8], run: Run, out: &mut [u8], at: usize) -> Step
     let c = run.clock;
     let place = run.place;
     let n = bytes.len();
-    if LONGEST_HISTORY < n {
-        let next = put_log(out, at, 13, LONGEST_HISTORY as u32);
-        return ended_at(c, place, next);
-    }
-    if n <= place {
-        return ended_at(c, place, at);
+    if (n <= place) | (LONGEST_HISTORY < n) {
+        return finish(bytes, run, out, at);
     }
     let entry = history::read(bytes, place);
     match entry {

@@ -1,43 +1,31 @@
--- `playback::advance` meets its contract: a history that is too long, the end of the bytes and undecodable bytes end the run; an event
--- is run.
+-- `playback::advance` meets its contract: where there is no event the run is finished; undecodable bytes end it; an event is run.
 use mathlib.Core.Path.{refl, sym, _∙_, ap}
+use Prim.Native.Nat.{_<_, _≤_}
 use native.Mathlib.Omega.{arith}
+use lib.ListN.{length}
+use borrow.Author.Tests.{leb-false, ltb-false}
 use Rattle.history.specs.Event.{told}
 use Rattle.playback.specs.Run.{longestHistory}
-use Rattle.playback.proofs.Buffers.{puts-none}
 use Rattle.playback.proofs.LineLaws.{log-small}
-use Rattle.playback.proofs.RunLaws.{step-long, step-end, step-found}
-use Rattle.playback.proofs.FillLaws.{stepped}
+use Rattle.playback.proofs.RunLaws.{step-found}
+use Rattle.playback.proofs.FillLaws.{neither, stepped}
 use borrow.Author.Needs.{needs}
 use Rattle.playback.proofs.run.advance.Statement.{statement}
 use Rattle.playback.proofs.run.advance.Tie as tie
 
-cast-put-log : tie.Need-cast-put-log
-cast-put-log c = search needs
+-- there is an event at the run's place
+here : (c : tie.Else1) → let s = c .before .before .before .before in
+    (s .args .run .place < length (s .args .bytes .now)) × (length (s .args .bytes .now) ≤ longestHistory)
+here c = let t = neither _ _ (c .if1 .left) in (leb-false _ _ (t .0), ltb-false _ _ (t .1))
 
-put-log-requires : tie.Need-put-log-requires
-put-log-requires c κs = search needs
-
-ended-at-requires : tie.Need-ended-at-requires
-ended-at-requires c κs = search needs
+finish-requires : tie.Need-finish-requires
+finish-requires c κs = search needs
 
 same-length : tie.Need-same-length
 same-length c = search needs
 
 returns : tie.Need-returns
-returns c =
-    let s = c .before .before .before .before .before .before .before .before .before in
-    stepped (step-long (s .args .bytes .now) (s .args .run) (s .pre .1) (c .before .before .before .before .before .if1 .taken))
-    (c .ended-at .ensures) (c .before .before .before .put-log .ensures) (log-small 13 longestHistory (omega arith) (omega arith))
-
-ended-at-requires-2 : tie.Need-ended-at-requires-2
-ended-at-requires-2 c κs = search needs
-
-returns-2 : tie.Need-returns-2
-returns-2 c =
-    let s = c .before .before .before .before .before .before in
-    stepped (step-end (s .args .bytes .now) (s .args .run) (s .pre .1) (c .before .before .if1 .left) (c .before .if2 .taken))
-    (c .ended-at2 .ensures) (puts-none (s .args .out .now) (s .args .at)) (omega arith)
+returns c = search needs
 
 read-requires : tie.Need-read-requires
 read-requires c κs = search needs
@@ -45,14 +33,14 @@ read-requires c κs = search needs
 enum-known-entry : tie.Need-enum-known-entry
 enum-known-entry c = search needs
 
-cast-put-log-2 : tie.Need-cast-put-log-2
-cast-put-log-2 c = search needs
+cast-put-log : tie.Need-cast-put-log
+cast-put-log c = let h = here (c .before .before .before .before .before) in omega (arith, h .0, h .1)
 
-put-log-requires-2 : tie.Need-put-log-requires-2
-put-log-requires-2 c κs = search needs
+put-log-requires : tie.Need-put-log-requires
+put-log-requires c κs = let h = here (c .before .before .before .before .before) in (c .before .before .before .before .before .before .before .before .before .pre .0, omega (arith, h .0, h .1))
 
-ended-at-requires-3 : tie.Need-ended-at-requires-3
-ended-at-requires-3 c κs = search needs
+ended-at-requires : tie.Need-ended-at-requires
+ended-at-requires c κs = search needs
 
 enum-known-entry-2 : tie.Need-enum-known-entry-2
 enum-known-entry-2 c = search needs
@@ -63,25 +51,23 @@ run-event-requires c κs = search needs
 same-length-2 : tie.Need-same-length-2
 same-length-2 c = search needs
 
-returns-3 : tie.Need-returns-3
-returns-3 c =
-    let s = c .before .before .before .before .before .before .before .before .before .before .before .before .before .before in
+returns-2 : tie.Need-returns-2
+returns-2 c =
+    let s = c .before .before .before .before .before .before .before .before .before .before .before .before .before in
     let n = c .before .before .before .before .before .before .entry .given in
-    let within = c .before .before .before .before .before .before .before .before .before .if2 .left in
-    let fits = c .before .before .before .before .before .before .before .before .before .before .if1 .left in
-    stepped (step-found (s .args .bytes .now) (s .args .run) (s .pre .1) fits within (sym (c .before .before .before .before .before .before .before .before .read .ensures) ∙ ap told (n .1)))
-    (c .ended-at3 .ensures) (c .before .before .before .put-log2 .ensures) (log-small (n .0 .0) (s .args .run .place) (omega arith) (omega arith))
+    let h = here (c .before .before .before .before .before .before .before .before .before) in
+    stepped (step-found (s .args .bytes .now) (s .args .run) (s .pre .1) (h .1) (h .0) (sym (c .before .before .before .before .before .before .before .before .read .ensures) ∙ ap told (n .1)))
+    (c .ended-at .ensures) (c .before .before .before .put-log .ensures) (log-small (n .0 .0) (s .args .run .place) (omega arith) (omega (arith, h .0, h .1)))
 
 same-length-3 : tie.Need-same-length-3
 same-length-3 c = search needs
 
-returns-4 : tie.Need-returns-4
-returns-4 c =
-    let s = c .before .before .before .before .before .before .before .before .before .before .before .before .before .before in
+returns-3 : tie.Need-returns-3
+returns-3 c =
+    let s = c .before .before .before .before .before .before .before .before .before .before .before .before .before in
     let n = c .before .before .before .before .before .before .entry2 .given in
-    let fits = c .before .before .before .before .before .before .before .before .before .before .if1 .left in
-    let within = c .before .before .before .before .before .before .before .before .before .if2 .left in
-    let e = step-found (s .args .bytes .now) (s .args .run) (s .pre .1) fits within (sym (c .before .before .before .before .before .before .before .before .read .ensures) ∙ ap told (n .1)) in
+    let h = here (c .before .before .before .before .before .before .before .before .before) in
+    let e = step-found (s .args .bytes .now) (s .args .run) (s .pre .1) (h .1) (h .0) (sym (c .before .before .before .before .before .before .before .before .read .ensures) ∙ ap told (n .1)) in
     let x = c .before .before .before .run-event .ensures in
     rw (x .clock) (stepped e refl (x .line) (x .small))
 
@@ -89,21 +75,17 @@ pub advance-spec : {M : Type 1} → statement M
 advance-spec =
     tie.close
     (tie.spec
+    finish-requires
+    same-length
+    returns
+    read-requires
+    enum-known-entry
     cast-put-log
     put-log-requires
     ended-at-requires
-    same-length
-    returns
-    ended-at-requires-2
-    returns-2
-    read-requires
-    enum-known-entry
-    cast-put-log-2
-    put-log-requires-2
-    ended-at-requires-3
     enum-known-entry-2
     run-event-requires
     same-length-2
-    returns-3
+    returns-2
     same-length-3
-    returns-4)
+    returns-3)
