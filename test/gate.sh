@@ -1,12 +1,12 @@
 # What .ci/run makes of its parts: a copy of it, with parts that only say something. The stand-ins for `rt`, .ci/contracts, .ci/reference
-# and test/run obey files of their names in $gate/mood: lines to say, and the exit status.
+# and test/run obey files of their names in $gate/orders: lines to say, and the exit status.
 # shellcheck shell=sh
 
 gate=$work/gate
 
 new_gate() {
     rm -rf "$gate"
-    mkdir -p "$gate/.ci" "$gate/test" "$gate/kit" "$gate/mood" "$gate/tmp"
+    mkdir -p "$gate/.ci" "$gate/test" "$gate/kit" "$gate/orders" "$gate/tmp"
     cp .ci/run "$gate/.ci/run"
     cat >"$gate/kit/part" <<'PART'
 #!/bin/sh
@@ -14,15 +14,15 @@ name=${0##*/}
 [ "$name" != rt ] || name=rt-$1
 case $0 in *test/run) name=test ;; esac
 echo "$name LC_ALL=$LC_ALL" >>"$GATE/calls"
-. "$GATE/mood/$name"
+. "$GATE/orders/$name"
 PART
     chmod +x "$gate/kit/part"
     for link in kit/rt .ci/contracts .ci/reference test/run; do ln -s "$gate/kit/part" "$gate/$link"; done
-    echo 'exit 0' >"$gate/mood/rt-fmt"
-    echo 'echo "contracts: fine"' >"$gate/mood/contracts"
-    echo 'echo "reference: fine"' >"$gate/mood/reference"
-    echo 'echo "rt: ok"; echo "7 passed, 0 failed"' >"$gate/mood/rt-ci"
-    echo 'echo "a test: as it should be"; echo "5 passed, 0 failed"' >"$gate/mood/test"
+    echo 'exit 0' >"$gate/orders/rt-fmt"
+    echo 'echo "contracts: fine"' >"$gate/orders/contracts"
+    echo 'echo "reference: fine"' >"$gate/orders/reference"
+    echo 'echo "rt: ok"; echo "7 passed, 0 failed"' >"$gate/orders/rt-ci"
+    echo 'echo "a test: as it should be"; echo "5 passed, 0 failed"' >"$gate/orders/test"
 }
 
 run_gate() {
@@ -57,7 +57,7 @@ SAID
 one_fails() {
     for part in rt-fmt contracts reference; do
         new_gate
-        echo 'echo "what is wrong"; exit 1' >"$gate/mood/$part"
+        echo 'echo "what is wrong"; exit 1' >"$gate/orders/$part"
         run_gate
         ended_with 1 '2 passed, 1 failed' && grep -qx 'what is wrong' "$work/out" || { echo "$part"; return 1; }
         if grep -q -e rt-ci -e test "$gate/calls"; then echo "$part: the rest was tried"; return 1; fi
@@ -72,7 +72,7 @@ one_fails() {
         part=${row%%=*}
         rest=${row#*=}
         new_gate
-        echo "${rest%=*}" >"$gate/mood/$part"
+        echo "${rest%=*}" >"$gate/orders/$part"
         run_gate
         ended_with 1 "${rest##*=}" || { echo "$row"; return 1; }
     done
@@ -81,7 +81,7 @@ one_fails() {
 # A line is seen while the part that said it is still at work: it waits for that.
 as_they_come() {
     new_gate
-    cat >"$gate/mood/rt-ci" <<'MOOD'
+    cat >"$gate/orders/rt-ci" <<'MOOD'
 echo "rt: first"
 tries=0
 until [ -f "$GATE/seen" ] || [ "$tries" -gt 50 ]; do tries=$((tries + 1)); sleep 0.1 2>/dev/null || sleep 1; done
@@ -99,7 +99,7 @@ MOOD
 signal() {
     for sent in TERM HUP; do
         new_gate
-        cat >"$gate/mood/rt-ci" <<'MOOD'
+        cat >"$gate/orders/rt-ci" <<'MOOD'
 echo "rt: at work"
 (trap ': >"$GATE/heard"; exit 1' TERM; : >"$GATE/ready"; sleep 30 & wait) &
 wait

@@ -4,7 +4,7 @@
 repo="$work/a repository" kit=$work/kit
 
 # A repository with two crates that the program is made of and one that it is not. The kit's rt says what the true one says, notes each
-# call, and builds a program that prints its input. It obeys a file `mood`: `fail`, or `wait` for a signal.
+# call, and builds a program that prints its input. It obeys a file `orders`: `fail`, or `wait` for a signal.
 new_repository() {
     rm -rf "$repo" "$kit"
     for folder in bin crates/part/src crates/part/must-fail crates/replay/src crates/other/src; do mkdir -p "$repo/$folder"; done
@@ -17,13 +17,13 @@ new_repository() {
     cat >"$kit/rt" <<'KIT'
 #!/bin/sh
 echo "$*, LC_ALL=$LC_ALL, in $(pwd)" >>"$KIT/calls"
-if [ "$(cat "$KIT/mood")" = wait ]; then
+if [ "$(cat "$KIT/orders")" = wait ]; then
     (trap ': >"$KIT/heard"; exit 1' TERM; : >"$KIT/ready"; sleep 30 & wait) &
     wait
 fi
 echo "logic=proved functions=7 a long line of the prover"
 echo "rt: part proved (12 s)"
-if [ "$(cat "$KIT/mood")" = fail ]; then
+if [ "$(cat "$KIT/orders")" = fail ]; then
     echo "crates/replay/src/main.rt:3:7: error: a need is left"
     echo "rt: replay NOT PROVED (exit 1, 3 s)"
     echo "rt: FAILED: replay"
@@ -37,7 +37,7 @@ echo "rt: replay ran, and wrote what its file 'stdout' has (0 s)"
 echo "rt: ok, 2 crates proved"
 KIT
     chmod +x "$kit/rt"
-    echo good >"$kit/mood"
+    echo good >"$kit/orders"
     : >"$kit/calls"
 }
 
@@ -100,15 +100,15 @@ after_a_change() {
 # The prover's errors are shown, what it proved is not shown again, and no old program is run.
 refused_crate() {
     new_repository
-    echo fail >"$kit/mood"
+    echo fail >"$kit/orders"
     KIT=$kit PATH=$kit:$PATH status_of "$repo/bin/replay" </dev/null
     refused_with 1 'replay: the program could not be built; target/log/ has all that the prover said' || return 1
     grep -qx 'crates/replay/src/main.rt:3:7: error: a need is left' "$work/said" || shown "the error is not shown" || return 1
     grep -qx 'rt: replay NOT PROVED (exit 1, 3 s)' "$work/said" || shown "the crate is not named" || return 1
     if grep -q 'a long line of the prover' "$work/said"; then echo "the whole log is shown"; return 1; fi
-    echo good >"$kit/mood"
+    echo good >"$kit/orders"
     replay_once && touch "$repo/crates.txt" && old target/bin/replay || return 1
-    echo fail >"$kit/mood"
+    echo fail >"$kit/orders"
     KIT=$kit PATH=$kit:$PATH status_of "$repo/bin/replay" <"$work/line"
     refused_with 1 'replay: the program could not be built'
 }
@@ -128,7 +128,7 @@ no_kit() {
 signal() {
     for sent in TERM HUP ${hearing:+INT}; do
         new_repository
-        echo wait >"$kit/mood"
+        echo wait >"$kit/orders"
         mkdir -p "$work/tmp"
         # What a shell starts in the background does not hear INT, unless env can say that it does.
         KIT=$kit PATH=$kit:$PATH TMPDIR=$work/tmp $hearing "$repo/bin/replay" </dev/null >"$work/out" 2>"$work/said" &

@@ -27,8 +27,8 @@ pub shut-out : ShutOut
 unfolding inRange readingOf readingRefusal rolledOver ticked tickRefusal tickOf settingRefusal settingOf requestRefusal requested requestOf afterBy ticksAmong neitherSetNorInserted bookFrom
 shut-out =
     record {
-      refusing = λ d. omega (arith, d .first .accepted);
-      zeros = λ d. not-below refl (d .first .near);
-      idle = λ d. not-most refl (d .third [] (Tick ∷ []) [] refl refl);
-      pretending = λ d. not-below refl (d .first .near);
+      refusing = λ near. not-below refl near;
+      zeros = λ near. not-below refl near;
+      idle = λ b. not-most refl (b [] (Tick ∷ []) [] refl refl);
+      pretending = λ near. not-below refl near;
     }

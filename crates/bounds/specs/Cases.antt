@@ -12,6 +12,7 @@ use Rattle.clock.specs.Units.{offsetUnits, phaseUnits, frequencyUnits}
 use Rattle.clock.specs.State.{freshClock, errorsOf, whole, statusOk, statusIns, statusDel, statusOop}
 use Rattle.clock.specs.Tick.{carry, rollsOver}
 use Rattle.clock.specs.declared.state.Clock.{Clock}
+use Rattle.request.specs.Request.{modeBits}
 use Rattle.event.specs.Event.{stepOf}
 use Rattle.event.specs.declared.event.Event.{Event}
 use Rattle.event.specs.declared.event.Event.the-variants as call
@@ -205,7 +206,7 @@ abbrev pub asks : ℤ → Event
 asks o =
     call.Request
     (record {
-      mode = 1;
+      mode = modeBits .offset;
       offset = record { 0 = o };
       frequency = record { 0 = pos 0 };
       maxerror = record { 0 = 0 };

@@ -1,9 +1,11 @@
 -- Clocks that document 01 shuts out by name: "a clock that refuses everything, and a reading that is always zero [..]; a tick that does
 -- nothing [..]; a rollover that pays the first share and later only pretends". For each, a list of calls at which demand 3 would fail.
-use Prim.Native.Nat.{ℕ, zero, suc}
+use Prim.Native.Nat.{ℕ, zero, suc, _%_}
 use mathlib.Core.Bool.{Bool, not, _&&_, cond}
 use mathlib.Core.List.{List, [], _∷_}
-use lib.IntN.{pos}
+use lib.Dec.{eqb}
+use lib.IntN.{pos, natAbs}
+use Rattle.clock.specs.Units.{offsetUnitsPerMicro}
 use Rattle.clock.specs.State.{freshClock, timeOf, tuningOf, updateOf, errorsOf, whole}
 use Rattle.clock.specs.Reading.{noReading}
 use Rattle.clock.specs.Tick.{rollsOver}
@@ -12,8 +14,9 @@ use Rattle.event.specs.Event.{stepOf}
 use Rattle.event.specs.declared.event.Event.{Event}
 use Rattle.event.specs.declared.event.Event.the-variants.{Tick, Setting, Request, Reading}
 use Rattle.bounds.specs.Calls.{Answers}
-use Rattle.bounds.specs.Cases.{asks, set, equal}
-use Rattle.bounds.specs.Demand.{Demand3}
+use Rattle.bounds.specs.Book.{bookAfter}
+use Rattle.bounds.specs.Cases.{asks, set}
+use Rattle.bounds.specs.Demand.{toldAfter, NearExact, ThirdBound}
 
 -- every call is refused, with 1
 abbrev pub refusesEverything : Answers
@@ -30,9 +33,10 @@ idles c (Setting s u) = stepOf c (Setting s u)
 idles c (Request r) = stepOf c (Request r)
 idles c Reading = stepOf c Reading
 
--- the adjustment holds a share already
-abbrev pub paysShare : Clock → Bool
-paysShare c = not (equal (c .adjustment .0) (freshClock .adjustment .0))
+-- Something has been taken off the offset that was asked for: what is left is no longer whole microseconds. (Of the offset asked for below
+-- that is so from the first share on.)
+abbrev pub begun : Clock → Bool
+begun c = not (eqb (natAbs (c .offset .0) % offsetUnitsPerMicro) 0)
 
 -- no share in the adjustment, at frequency 0
 abbrev pub unpaid : Clock → Clock
@@ -47,12 +51,12 @@ unpaid c =
       status = c .status;
     })
 
--- a rollover after one that paid a share takes its share off the offset, and pays nothing
+-- the first share is paid; each later one is taken off the offset, and not paid
 abbrev pub pretends : Answers
 pretends c Tick =
     record {
       refusal = stepOf c Tick .refusal;
-      clock = cond (rollsOver c && paysShare c) (unpaid (stepOf c Tick .clock)) (stepOf c Tick .clock);
+      clock = cond (rollsOver c && begun c) (unpaid (stepOf c Tick .clock)) (stepOf c Tick .clock);
       reading = noReading;
     }
 pretends c (Setting s u) = stepOf c (Setting s u)
@@ -68,9 +72,11 @@ ticksOnly (suc n) = Tick ∷ ticksOnly n
 abbrev pub pretence : List Event
 pretence = set 0 999999 ∷ asks (pos 127999) ∷ ticksOnly 262
 
--- none of them meets demand 3
+-- None of them meets demand 3: a clock that refuses everything and a reading that is always zero are not near the exact time after a tick, "a tick
+-- that does nothing (.. 3's forward bound)", "a rollover that pays the first share and later only pretends (.. 3's first bound, whose
+-- exact time counts every share)".
 pub record ShutOut : Type 0 where
-  pub refusing : Demand3 refusesEverything [] → ⊥
-  pub zeros : Demand3 readsZero (Tick ∷ []) → ⊥
-  pub idle : Demand3 idles (Reading ∷ Tick ∷ Reading ∷ []) → ⊥
-  pub pretending : Demand3 pretends pretence → ⊥
+  pub refusing : NearExact (toldAfter refusesEverything (Tick ∷ [])) (bookAfter (Tick ∷ [])) → ⊥
+  pub zeros : NearExact (toldAfter readsZero (Tick ∷ [])) (bookAfter (Tick ∷ [])) → ⊥
+  pub idle : ThirdBound idles (Reading ∷ Tick ∷ Reading ∷ []) → ⊥
+  pub pretending : NearExact (toldAfter pretends pretence) (bookAfter pretence) → ⊥

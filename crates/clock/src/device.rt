@@ -34,6 +34,13 @@ pub const RECORDER_256: Device = Device {
 // The constants that this build runs with.
 pub fn device_constants() -> Device
     ensures { λ r. ⌜ r ≡ recorder256 ⌝ }
+    ensures { λ _. do ⌜ (← ⟦RECORDER_256.rate⟧ .entry) ≡ recorder256 .rate ⌝ }
+    ensures { λ _. do ⌜ (← ⟦RECORDER_256.tick.0⟧ .entry) ≡ recorder256 .tick .0 ⌝ }
+    ensures { λ _. do ⌜ (← ⟦RECORDER_256.scale⟧ .entry) ≡ recorder256 .scale ⌝ }
+    ensures { λ _. do ⌜ (← ⟦RECORDER_256.divisor⟧ .entry) ≡ recorder256 .divisor ⌝ }
+    ensures { λ _. do ⌜ (← ⟦RECORDER_256.base.0⟧ .entry) ≡ recorder256 .base .0 ⌝ }
+    ensures { λ _. do ⌜ (← ⟦RECORDER_256.least.0⟧ .entry) ≡ recorder256 .least .0 ⌝ }
+    ensures { λ _. do ⌜ (← ⟦RECORDER_256.most.0⟧ .entry) ≡ recorder256 .most .0 ⌝ }
 {
     RECORDER_256
 }

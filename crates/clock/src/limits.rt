@@ -52,7 +52,7 @@ pub const TIME_OOP: u8 = 3;
 
 pub const TIME_BAD: u8 = 4;
 
-// The constants above as values, so that each is promised.
+// The constants above as values. Each function promises what it answers, and that the constants of these names have the same values.
 
 pub struct Scales {
     pub phase: i32,
@@ -66,6 +66,11 @@ pub struct Scales {
 // in a day.
 pub fn unit_scales() -> Scales
     ensures { λ r. ⌜ r ≡ scales ⌝ }
+    ensures { λ _. do ⌜ (← ⟦PHASE_PER_MICRO⟧ .entry) ≡ scales .phase ⌝ }
+    ensures { λ _. do ⌜ (← ⟦OFFSET_PER_MICRO⟧ .entry) ≡ scales .offset ⌝ }
+    ensures { λ _. do ⌜ (← ⟦FREQUENCY_PER_PPM⟧ .entry) ≡ scales .frequency ⌝ }
+    ensures { λ _. do ⌜ (← ⟦MICROS_PER_SECOND⟧ .entry) ≡ scales .second ⌝ }
+    ensures { λ _. do ⌜ (← ⟦SECONDS_PER_DAY⟧ .entry) ≡ scales .day ⌝ }
 {
     Scales {
         phase: PHASE_PER_MICRO,
@@ -96,6 +101,17 @@ pub struct Limits {
 // The ends of the state's ranges, and the greatest offset of a request. All are values that are allowed, but for those of the phase.
 pub fn state_limits() -> Limits
     ensures { λ r. ⌜ r ≡ limits ⌝ }
+    ensures { λ _. do ⌜ (← ⟦LAST_SECOND⟧ .entry) ≡ limits .seconds ⌝ }
+    ensures { λ _. do ⌜ (← ⟦LAST_MICRO⟧ .entry) ≡ limits .micros ⌝ }
+    ensures { λ _. do ⌜ (← ⟦PHASE_LOWER_END⟧ .entry) ≡ limits .phase .lower ⌝ }
+    ensures { λ _. do ⌜ (← ⟦PHASE_UPPER_END⟧ .entry) ≡ limits .phase .upper ⌝ }
+    ensures { λ _. do ⌜ (← ⟦MAX_OFFSET_MICROS⟧ .entry) ≡ limits .asked ⌝ }
+    ensures { λ _. do ⌜ (← ⟦MIN_OFFSET⟧ .entry) ≡ limits .offset .lower ⌝ }
+    ensures { λ _. do ⌜ (← ⟦MAX_OFFSET⟧ .entry) ≡ limits .offset .upper ⌝ }
+    ensures { λ _. do ⌜ (← ⟦MIN_FREQUENCY⟧ .entry) ≡ limits .frequency .lower ⌝ }
+    ensures { λ _. do ⌜ (← ⟦MAX_FREQUENCY⟧ .entry) ≡ limits .frequency .upper ⌝ }
+    ensures { λ _. do ⌜ (← ⟦MAX_CONSTANT⟧ .entry) ≡ limits .constant ⌝ }
+    ensures { λ _. do ⌜ (← ⟦MAX_ERROR⟧ .entry) ≡ limits .error ⌝ }
 {
     Limits {
         seconds: LAST_SECOND,
@@ -128,6 +144,11 @@ pub struct StatusCodes {
 
 pub fn status_codes() -> StatusCodes
     ensures { λ r. ⌜ r ≡ statusCodes ⌝ }
+    ensures { λ _. do ⌜ (← ⟦TIME_OK⟧ .entry) ≡ statusCodes .ok ⌝ }
+    ensures { λ _. do ⌜ (← ⟦TIME_INS⟧ .entry) ≡ statusCodes .ins ⌝ }
+    ensures { λ _. do ⌜ (← ⟦TIME_DEL⟧ .entry) ≡ statusCodes .del ⌝ }
+    ensures { λ _. do ⌜ (← ⟦TIME_OOP⟧ .entry) ≡ statusCodes .oop ⌝ }
+    ensures { λ _. do ⌜ (← ⟦TIME_BAD⟧ .entry) ≡ statusCodes .bad ⌝ }
 {
     StatusCodes {
         ok: TIME_OK,

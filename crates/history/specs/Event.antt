@@ -2,7 +2,7 @@
 -- setting; `2 mode` and the selected fields in order of mode bit, offset and frequency mapped ..; `3` print".
 use mathlib.Core.Bool.{cond}
 use mathlib.Core.List.{List}
-use Prim.Native.Nat.{ℕ, _%_}
+use Prim.Native.Nat.{ℕ, suc, _%_}
 use lib.Dec.{eqb}
 use lib.IntN.{ℤ}
 use Rattle.clock.specs.declared.units.AskedMicros.{AskedMicros}
@@ -10,7 +10,7 @@ use Rattle.event.specs.declared.event.Event.the-variants.{Setting, Request, Rea
 use Rattle.number.specs.Mapping.{unmapped}
 use Rattle.number.specs.Reading.{Found as Number, number, numberAt}
 use Rattle.number.specs.Sequence.{then}
-use Rattle.request.specs.Request.{bitSet, modeBits}
+use Rattle.request.specs.Request.{bitSet, modeBits, greatestMode}
 use Rattle.request.specs.declared.units.AskedOffset.{AskedOffset}
 use Rattle.request.specs.declared.units.AskedFrequency.{AskedFrequency}
 use Rattle.history.specs.declared.Event.{Event}
@@ -82,7 +82,7 @@ fieldsAt mode bits s n0 =
 
 -- "`2 mode` and the selected fields .. (a mode above 63 brings the fields of mode mod 64 ..)": the request keeps the mode as it was given
 unfoldable pub requestAt : List ℕ → ℕ → Found
-requestAt s at = then refused (numberAt s at) (λ mode n0. fieldsAt mode (mode % 64) s n0)
+requestAt s at = then refused (numberAt s at) (λ mode n0. fieldsAt mode (mode % suc greatestMode) s n0)
 
 -- the arguments that an event's code brings; 12 "unknown .. event code"
 unfoldable pub argumentsAt : ℕ → List ℕ → ℕ → Found

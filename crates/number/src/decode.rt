@@ -11,12 +11,12 @@ use crate::form::MORE;
 const SAYS_MORE: u64 = MORE as u64;
 
 // What a unit of the second group is worth, and of the third.
-const SECOND: u64 = GROUP as u64;
+const SECOND_GROUP: u64 = GROUP as u64;
 
-const THIRD: u64 = SECOND * SECOND;
+const THIRD_GROUP: u64 = SECOND_GROUP * SECOND_GROUP;
 
 // The top bits of two bytes that say more.
-const TOP_BITS: u64 = SAYS_MORE + SECOND * SAYS_MORE;
+const TOP_BITS: u64 = SAYS_MORE + SECOND_GROUP * SAYS_MORE;
 
 // What reading at a place gives: the number there, below 2^35, and the place after it; or the refusal, 10 or 11.
 pub enum Decoded {
@@ -51,13 +51,13 @@ pub fn read(bytes: &[u8], at: usize) -> Decoded
     }
     let b1 = wide(bytes[p]);
     if SAYS_MORE <= b1 {
-        return read_long(bytes, p + 1, b0 + SECOND * b1 - TOP_BITS);
+        return read_long(bytes, p + 1, b0 + SECOND_GROUP * b1 - TOP_BITS);
     }
     if b1 == 0 {
         return Decoded::Refused(11);
     }
     Decoded::Value {
-        value: b0 + SECOND * b1 - SAYS_MORE,
+        value: b0 + SECOND_GROUP * b1 - SAYS_MORE,
         next: p + 1,
     }
 }
@@ -69,7 +69,7 @@ fn read_long(bytes: &[u8], at: usize, low: u64) -> Decoded
 {
     let n = bytes.len();
     let mut sum = low;
-    let mut scale: u64 = THIRD;
+    let mut scale: u64 = THIRD_GROUP;
     let mut p = at;
     let mut left: u64 = 3;
     while 0 < left {
@@ -88,7 +88,7 @@ fn read_long(bytes: &[u8], at: usize, low: u64) -> Decoded
                 next: p,
             };
         }
-        scale = scale * SECOND;
+        scale = scale * SECOND_GROUP;
         // The byte's top bit is none of the number.
         sum = sum - scale;
         left = left - 1;

@@ -32,6 +32,8 @@ pub struct RunLimits {
 // What a run takes, and what it needs.
 pub fn run_limits() -> RunLimits
     ensures { λ r. ⌜ r ≡ runLimits ⌝ }
+    ensures { λ _. do ⌜ (← ⟦LONGEST_HISTORY⟧ .entry) ≡ runLimits .history ⌝ }
+    ensures { λ _. do ⌜ (← ⟦LONGEST_LINE⟧ .entry) ≡ runLimits .line ⌝ }
 {
     RunLimits {
         history: LONGEST_HISTORY,

@@ -1,6 +1,6 @@
 -- What the reader's private functions answer. No public promise names these.
 use Prim.Native.Nat.{ℕ, _*_, _-_}
-use lib.IntN.{ℤ}
+use lib.IntN.{ℤ, natAbs}
 use mathlib.Core.Bool.{Bool, cond, _&&_}
 use lib.Dec.{leb, eqb}
 use lib.Signed.{leZ}
@@ -8,6 +8,7 @@ use Rattle.number.specs.Layout.{Layout, whole}
 use Rattle.number.specs.Mapping.{unmapped}
 use Rattle.number.specs.Reading.{Found, number, refused}
 use Rattle.clock.specs.Units.{offsetUnitsPerMicro, phaseUnitsPerMicro}
+use Rattle.clock.specs.Device.{recorder256}
 use Rattle.clock.specs.State.{lastSecond, greatestOffset, greatestFrequency}
 use Rattle.clock.specs.declared.state.Clock.{Clock}
 use Rattle.record.specs.Layout.{timeFields, loopFields, rateFields, updateFields, errorFields, clockOf}
@@ -46,7 +47,7 @@ abbrev pub mappedFrequency : ℕ
 mappedFrequency = 2 * greatestFrequency
 
 abbrev pub mappedAdjustment : ℕ
-mappedAdjustment = 2 * 303037440
+mappedAdjustment = 2 * natAbs (recorder256 .most .0)
 
 -- the largest second of an earlier update
 abbrev pub lastReftime : ℕ → ℕ

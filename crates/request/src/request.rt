@@ -31,9 +31,15 @@ pub struct ModeBits {
     pub constant: u64,
 }
 
-// Which bit selects which field.
+// Which bit selects which field; the constants of these names have the same values.
 pub fn mode_bits() -> ModeBits
     ensures { λ r. ⌜ r ≡ modeBits ⌝ }
+    ensures { λ _. do ⌜ (← ⟦ADJ_OFFSET⟧ .entry) ≡ modeBits .offset ⌝ }
+    ensures { λ _. do ⌜ (← ⟦ADJ_FREQUENCY⟧ .entry) ≡ modeBits .frequency ⌝ }
+    ensures { λ _. do ⌜ (← ⟦ADJ_MAXERROR⟧ .entry) ≡ modeBits .maxerror ⌝ }
+    ensures { λ _. do ⌜ (← ⟦ADJ_ESTERROR⟧ .entry) ≡ modeBits .esterror ⌝ }
+    ensures { λ _. do ⌜ (← ⟦ADJ_STATUS⟧ .entry) ≡ modeBits .status ⌝ }
+    ensures { λ _. do ⌜ (← ⟦ADJ_TIMECONST⟧ .entry) ≡ modeBits .constant ⌝ }
 {
     ModeBits {
         offset: ADJ_OFFSET,

@@ -15,8 +15,8 @@ const LEAP_DAY: u64 = 951782400;
 
 const FIFTY_PPM: i64 = 50 * (FREQUENCY_PER_PPM as i64);
 
-// The ticks of a second: the timer runs at 256 Hz.
-const SECOND: u64 = 256;
+// About a second: the timer runs at 256 Hz, and from one second's end to the next there are 255, 256 or 257 ticks.
+const TICKS: u64 = 256;
 
 fn main() {
     // A clock to which nothing has happened yet shows 1970. Its status is 4, BAD: it is not to be relied on.
@@ -43,10 +43,10 @@ fn main() {
 
     // Neither is in force before a new second begins. In the one that then begins the clock gains 50 us by the frequency, and 1,000/1,024
     // of a microsecond by the offset; a reading shows whole microseconds.
-    let first = clock::run_ticks(adjusted.clock, SECOND);
-    show_clock(b"a second later", first.clock);
-    let second = clock::run_ticks(first.clock, SECOND);
-    show_clock(b"another second later", second.clock);
+    let first = clock::run_ticks(adjusted.clock, TICKS);
+    show_clock(b"256 ticks later", first.clock);
+    let second = clock::run_ticks(first.clock, TICKS);
+    show_clock(b"another 256 ticks later", second.clock);
 
     save_and_restore(second.clock);
 }
