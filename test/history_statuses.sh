@@ -37,7 +37,32 @@ failed_late() {
     refused_with 1 'history: standard input could not be read to its end'
 }
 
+# With standard error closed nothing can be said, and all else is the same.
+closed_error() {
+    printf 'print\n' >"$work/text"
+    printf '\003' >"$work/bytes"
+    status_of sh -c 'exec bin/history bytes <"$1" 2>&-' sh "$work/text"
+    [ "$status" -eq 0 ] && cmp "$work/out" "$work/bytes" || shown "bytes" || return 1
+    status_of sh -c 'exec bin/history text <"$1" 2>&-' sh "$work/bytes"
+    [ "$status" -eq 0 ] && cmp "$work/out" "$work/text" || shown "text" || return 1
+    echo nonsense >"$work/text"
+    status_of sh -c 'exec bin/history bytes <"$1" 2>&-' sh "$work/text"
+    [ "$status" -eq 1 ] && [ ! -s "$work/out" ] || shown "a bad line"
+}
+
+missing_tool() {
+    for missing in awk od; do
+        rm -rf "$work/few"
+        mkdir "$work/few"
+        for tool in sh timeout awk od; do [ "$tool" = "$missing" ] || ln -s "$(command -v "$tool")" "$work/few/$tool"; done
+        PATH=$work/few status_of bin/history bytes </dev/null
+        refused_with 2 "history: $missing is missing" || return 1
+    done
+}
+
 tell "bad usage of bin/history" bad_usage
+tell "bin/history without awk or od" missing_tool
+tell_awks "bin/history with standard error closed" closed_error
 tell_awks "a failed write of bin/history" failed_write
 tell_awks "a failed read of bin/history" failed_read
 if perl test/failing_input.pl x true 2>/dev/null; then

@@ -3,15 +3,15 @@
 
 repo="$work/a repository" kit=$work/kit
 
-# A repository with two crates that the program is made of and one that it is not. The kit's rt says what the true one says, notes each
+# A repository with three crates that the program is made of, each by the next, and one that it is not. The kit's rt says what the true one says, notes each
 # call, and builds a program that prints its input. It obeys a file `orders`: `fail`, or `wait` for a signal.
 new_repository() {
     rm -rf "$repo" "$kit"
-    for folder in bin crates/part/src crates/part/must-fail crates/replay/src crates/other/src; do mkdir -p "$repo/$folder"; done
+    for folder in bin crates/base/src crates/part/src crates/part/must-fail crates/replay/src crates/other/src; do mkdir -p "$repo/$folder"; done
     mkdir "$kit"
     cp bin/replay "$repo/bin/replay"
-    printf '%s\n' '# crates' 'part:' 'replay: part io # the program' 'other: part' >"$repo/crates.txt"
-    for file in part/src/lib.rt part/src/more.rt part/must-fail/lie.edit replay/src/main.rt other/src/lib.rt; do
+    printf '%s\n' '# crates' 'base:' 'part: base' 'replay: part io # the program' 'other: part' >"$repo/crates.txt"
+    for file in base/src/lib.rt part/src/lib.rt part/src/more.rt part/must-fail/lie.edit replay/src/main.rt other/src/lib.rt; do
         echo "// $file" >"$repo/crates/$file"
     done
     cat >"$kit/rt" <<'KIT'
@@ -22,6 +22,7 @@ if [ "$(cat "$KIT/orders")" = wait ]; then
     wait
 fi
 echo "logic=proved functions=7 a long line of the prover"
+echo "rt: base proved (1 s)"
 echo "rt: part proved (12 s)"
 if [ "$(cat "$KIT/orders")" = fail ]; then
     echo "crates/replay/src/main.rt:3:7: error: a need is left"
@@ -34,7 +35,7 @@ printf '#!/bin/sh\ncat\n' >target/bin/replay
 chmod +x target/bin/replay
 echo "rt: replay proved (3 s)"
 echo "rt: replay ran, and wrote what its file 'stdout' has (0 s)"
-echo "rt: ok, 2 crates proved"
+echo "rt: ok, 3 crates proved"
 KIT
     chmod +x "$kit/rt"
     echo good >"$kit/orders"
@@ -58,9 +59,10 @@ first_use() {
     replay_once || return 1
     [ "$(cat "$kit/calls")" = "check replay, LC_ALL=C, in $repo" ] || { cat "$kit/calls"; return 1; }
     cat >"$work/wanted" <<'SAID'
-replay: proving and building the program, 2 crates: some minutes on first use, and seconds for what has not changed
-replay: 1 of 2: part proved (12 s)
-replay: 2 of 2: replay proved (3 s)
+replay: proving and building the program, 3 crates: some minutes on first use, and seconds for what has not changed
+replay: 1 of 3: base proved (1 s)
+replay: 2 of 3: part proved (12 s)
+replay: 3 of 3: replay proved (3 s)
 SAID
     diff "$work/said" "$work/wanted"
 }
@@ -83,7 +85,7 @@ once_after() { # WHAT
 after_a_change() {
     new_repository
     replay_once || return 1
-    for file in crates.txt crates/part/src/lib.rt crates/replay/src/main.rt; do
+    for file in crates.txt crates/base/src/lib.rt crates/part/src/lib.rt crates/replay/src/main.rt; do
         sleep 0.02 2>/dev/null || sleep 1
         echo "# changed" >>"$repo/$file"
         once_after "a change of $file" || return 1
@@ -95,6 +97,18 @@ after_a_change() {
     once_after "the loss of the program" || return 1
     old target/bin/replay
     once_after "an old program"
+}
+
+# With standard error closed nothing can be said, and all else is the same.
+closed_error() {
+    new_repository
+    echo line >"$work/line"
+    for number in 1 2; do
+        KIT=$kit PATH=$kit:$PATH status_of sh -c 'exec "$1" <"$2" 2>&-' sh "$repo/bin/replay" "$work/line"
+        [ "$status" -eq 0 ] && [ "$(cat "$work/out")" = line ] && [ "$(calls)" -eq "$number" ] || shown "use $number, $(calls) calls" || return 1
+        sleep 0.02 2>/dev/null || sleep 1
+        echo "# changed" >>"$repo/crates/base/src/lib.rt"
+    done
 }
 
 # The prover's errors are shown, what it proved is not shown again, and no old program is run.
@@ -148,6 +162,7 @@ if env --default-signal=INT true 2>/dev/null; then hearing='env --default-signal
 tell "the first use of bin/replay" first_use
 tell "bin/replay builds nothing without need" not_again
 tell "bin/replay builds after a change" after_a_change
+tell "bin/replay with standard error closed" closed_error
 tell "bin/replay where a crate is refused" refused_crate
 tell "bin/replay without the kit" no_kit
 tell "a signal to bin/replay" signal

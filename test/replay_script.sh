@@ -29,8 +29,9 @@ through_links() {
 }
 
 from_elsewhere() {
+    mkdir -p "$work/x/bin"
     (cd / && replays "$top/bin/replay") && (cd bin && replays ./replay) && replays sh bin/replay &&
-        (CDPATH=/tmp && export CDPATH && replays bin/replay)
+        (CDPATH=$work/x && export CDPATH && replays bin/replay)
 }
 
 tell "arguments of bin/replay" no_arguments
