@@ -63,8 +63,7 @@ module _ (c : Clock) (t : inRange c ≡ true) (l : rollsOver c ≡ false) where
   plain-tick = simp (t, l)
 
   plain-run : (n : ℕ) (stop : Bool) → ranOf stop (suc n) c ≡ oneMore (ranOf stop n (stepped c))
-  unfolding ranOf
-  plain-run n stop = simp (plain-tick, l, no-stop stop)
+  plain-run n stop = run-accepted c n stop (ap (λ (o : Outcome). o .refusal) plain-tick) ∙ simp (plain-tick, l, no-stop stop)
 
 -- j ticks within the second, and the rest
 module _ (c : Clock) (k : Ok c) (n : ℕ) (stop : Bool) where
