@@ -3,5 +3,5 @@ pub mod RollLaws
 pub mod TickLaws
 pub mod TickCases
 pub mod SettingCases
-pub mod CatchUpLaws
-pub mod ManyTicks
+pub mod JumpLaws
+pub mod RunLaws

@@ -9,6 +9,7 @@ ghost use Rattle.clock.specs.Inner.{greatestShare, leapOf};
 use crate::device::RECORDER_256;
 use crate::limits::MAX_ERROR;
 use crate::limits::SECONDS_PER_DAY;
+use crate::limits::TIME_BAD;
 use crate::limits::TIME_DEL;
 use crate::limits::TIME_INS;
 use crate::limits::TIME_OK;
@@ -34,17 +35,14 @@ fn maxerror_grown(e: Micros) -> Micros
     }
 }
 
+// What a share is of the offset that is left, at time constant 0.
+const SHARE_DIVISOR: i32 = 1024;
+
 fn share_divisor(constant: u8) -> i32
     requires { ⌜ constant ≤ greatestConstant ⌝ }
     ensures { λ r. ⌜ r ≡ pos (shareDivisor constant) ⌝ }
 {
-    match constant {
-        0 => 1024,
-        1 => 2048,
-        2 => 4096,
-        3 => 8192,
-        _ => 16384,
-    }
+    SHARE_DIVISOR << constant
 }
 
 fn share_of(c: Clock) -> OffsetUnits
@@ -75,6 +73,13 @@ fn leap_step(status: u8, s: u32) -> Leap
     requires { ⌜ (0 < s) × (s ≤ lastSecond) ⌝ }
     ensures { λ r. ⌜ r ≡ leapOf status s ⌝ }
 {
+    // Nearly every second ends so: one test for both.
+    if (status == TIME_OK) | (status == TIME_BAD) {
+        return Leap {
+            seconds: s,
+            status: status,
+        };
+    }
     match status {
         TIME_INS => {
             if s % SECONDS_PER_DAY == 0 {

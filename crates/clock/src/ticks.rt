@@ -1,10 +1,39 @@
 // Many ticks in one call.
 ghost use mathlib.Core.Path.{_≡_};
-ghost use Rattle.clock.specs.Ticks.{ticksOf};
-use crate::catch_up::ticks_to_rollover;
+ghost use Rattle.clock.specs.Ticks.{catchUpOf, greatestCeiling, refusedWith, ticksOf};
 use crate::outcome::Outcome;
+use crate::run::CaughtUp;
+use crate::run::run;
 use crate::state::Clock;
 use crate::state::in_range;
+
+// The most ticks that a catch-up may be asked for.
+pub const MAX_CEILING: u64 = 65536;
+
+fn refused(c: Clock, refusal: u8) -> CaughtUp
+    ensures { λ r. ⌜ r ≡ refusedWith refusal c ⌝ }
+{
+    CaughtUp {
+        refusal: refusal,
+        count: 0,
+        tick_refusal: 0,
+        clock: c,
+    }
+}
+
+// Up to `ceiling` ticks, to the first that is refused; where `stop`, to the tick that rolls the second over.
+pub fn catch_up(c: Clock, ceiling: u64, stop: bool) -> CaughtUp
+    ensures { λ r. ⌜ r ≡ catchUpOf c ceiling stop ⌝ }
+    ensures { λ _. do ⌜ (← ⟦MAX_CEILING⟧ .entry) ≡ greatestCeiling ⌝ }
+{
+    if !in_range(c) {
+        return refused(c, 1);
+    }
+    if MAX_CEILING < ceiling {
+        return refused(c, 16);
+    }
+    run(c, ceiling, stop)
+}
 
 // Up to n single ticks. The answer of the first that is refused, with the clock that the accepted ones led to; or refusal 0. A clock out
 // of range is refused even where n is 0.
@@ -17,22 +46,10 @@ pub fn run_ticks(c: Clock, n: u64) -> Outcome
             clock: c,
         };
     }
-    let mut d = c;
-    let mut left = n;
-    while 0 < left {
-        let r = ticks_to_rollover(d, left);
-        let next = r.clock;
-        if r.refusal != 0 {
-            return Outcome {
-                refusal: r.refusal,
-                clock: next,
-            };
-        }
-        d = next;
-        left = r.left;
-    }
+    let r = run(c, n, false);
+    let clock = r.clock;
     Outcome {
-        refusal: 0,
-        clock: d,
+        refusal: r.tick_refusal,
+        clock: clock,
     }
 }

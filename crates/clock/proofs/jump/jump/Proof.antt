@@ -1,0 +1,132 @@
+-- `clock::jump::jump`: each step fits its type, so that microseconds and phase are those of `jumpOf`.
+use Prim.Native.Nat.{_-_}
+use lib.Dec.{lit<}
+use Rattle.clock.specs.Inner.{Within}
+use Rattle.clock.proofs.Ok.{Ok, ok}
+use Rattle.clock.proofs.JumpLaws.{jumpReads, read-ticks, wide-phase, wide-adjustment, fits-steps, fits-sums, fits-carries, fits-wholes, fits-left, fits-phase-left, fits-later, later-nonNeg, fits-micros-later}
+use borrow.Author.Needs.{needs}
+use Rattle.clock.proofs.jump.jump.Statement.{statement}
+use Rattle.clock.proofs.jump.jump.Tie as tie
+
+cast-sum : tie.Need-cast-sum
+cast-sum c =
+    let s = c .before .before in
+    let k : Ok (s .args .c) = ok (s .args .c) (s .pre .0) in
+    simp jumpReads (wide-phase (s .args .c) k)
+
+cast-sum-2 : tie.Need-cast-sum-2
+cast-sum-2 c = search needs
+
+cast-sum-3 : tie.Need-cast-sum-3
+cast-sum-3 c =
+    let s = c .before .before .before .before in
+    let k : Ok (s .args .c) = ok (s .args .c) (s .pre .0) in
+    simp jumpReads (wide-adjustment (s .args .c) k)
+
+mul-sum : tie.Need-mul-sum
+mul-sum c =
+    let s = c .before .before .before .before in
+    let k : Ok (s .args .c) = ok (s .args .c) (s .pre .0) in
+    let w : Within (s .args .j - 1) (s .args .c) = s .pre .1 in
+    simp (read-ticks (s .args .c) k (s .args .j) w, jumpReads) (fits-steps (s .args .c) k (s .args .j) w)
+
+add-sum : tie.Need-add-sum
+add-sum c =
+    let s = c .before .before .before .before in
+    let k : Ok (s .args .c) = ok (s .args .c) (s .pre .0) in
+    let w : Within (s .args .j - 1) (s .args .c) = s .pre .1 in
+    simp (read-ticks (s .args .c) k (s .args .j) w, jumpReads) (fits-sums (s .args .c) k (s .args .j) w)
+
+cast-carry : tie.Need-cast-carry
+cast-carry c = search needs
+
+div-carry : tie.Need-div-carry
+div-carry c =
+    let s = c .before .before .before .before in
+    let k : Ok (s .args .c) = ok (s .args .c) (s .pre .0) in
+    let w : Within (s .args .j - 1) (s .args .c) = s .pre .1 in
+    simp (read-ticks (s .args .c) k (s .args .j) w, jumpReads) (lit< tt, fits-carries (s .args .c) k (s .args .j) w)
+
+cast-t9 : tie.Need-cast-t9
+cast-t9 c = search needs
+
+cast-t15 : tie.Need-cast-t15
+cast-t15 c = search needs
+
+mul-t16 : tie.Need-mul-t16
+mul-t16 c = search needs
+
+add-t17 : tie.Need-add-t17
+add-t17 c = search needs
+
+cast-t8 : tie.Need-cast-t8
+cast-t8 c = search needs
+
+add-t5 : tie.Need-add-t5
+add-t5 c =
+    let s = c .before .before .before .before .before .before in
+    let k : Ok (s .args .c) = ok (s .args .c) (s .pre .0) in
+    let w : Within (s .args .j - 1) (s .args .c) = s .pre .1 in
+    simp (read-ticks (s .args .c) k (s .args .j) w, jumpReads) (fits-later (s .args .c) k (s .args .j) w)
+
+cast-t18 : tie.Need-cast-t18
+cast-t18 c =
+    let s = c .before .before .before .before .before .before in
+    let k : Ok (s .args .c) = ok (s .args .c) (s .pre .0) in
+    let w : Within (s .args .j - 1) (s .args .c) = s .pre .1 in
+    simp (read-ticks (s .args .c) k (s .args .j) w, jumpReads) (later-nonNeg (s .args .c) k (s .args .j) w, fits-micros-later (s .args .c) k (s .args .j) w)
+
+cast-t7 : tie.Need-cast-t7
+cast-t7 c = search needs
+
+mul-t6 : tie.Need-mul-t6
+mul-t6 c =
+    let s = c .before .before .before .before .before .before in
+    let k : Ok (s .args .c) = ok (s .args .c) (s .pre .0) in
+    let w : Within (s .args .j - 1) (s .args .c) = s .pre .1 in
+    simp (read-ticks (s .args .c) k (s .args .j) w, jumpReads) (fits-wholes (s .args .c) k (s .args .j) w)
+
+sub-t20 : tie.Need-sub-t20
+sub-t20 c =
+    let s = c .before .before .before .before .before .before in
+    let k : Ok (s .args .c) = ok (s .args .c) (s .pre .0) in
+    let w : Within (s .args .j - 1) (s .args .c) = s .pre .1 in
+    simp (read-ticks (s .args .c) k (s .args .j) w, jumpReads) (fits-left (s .args .c) k (s .args .j) w)
+
+cast-t21 : tie.Need-cast-t21
+cast-t21 c =
+    let s = c .before .before .before .before .before .before in
+    let k : Ok (s .args .c) = ok (s .args .c) (s .pre .0) in
+    let w : Within (s .args .j - 1) (s .args .c) = s .pre .1 in
+    simp (read-ticks (s .args .c) k (s .args .j) w, jumpReads) (fits-phase-left (s .args .c) k (s .args .j) w)
+
+returns : tie.Need-returns
+returns c =
+    let s = c .before .before .before .before .before .before in
+    let k : Ok (s .args .c) = ok (s .args .c) (s .pre .0) in
+    let w : Within (s .args .j - 1) (s .args .c) = s .pre .1 in
+    simp (read-ticks (s .args .c) k (s .args .j) w, jumpReads)
+
+pub jump-spec : {M : Type 1} → statement M
+jump-spec =
+    tie.close
+    (tie.spec
+    cast-sum
+    cast-sum-2
+    cast-sum-3
+    mul-sum
+    add-sum
+    cast-carry
+    div-carry
+    cast-t9
+    cast-t15
+    mul-t16
+    add-t17
+    cast-t8
+    add-t5
+    cast-t18
+    cast-t7
+    mul-t6
+    sub-t20
+    cast-t21
+    returns)
