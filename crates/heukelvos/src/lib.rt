@@ -1,20 +1,15 @@
-ghost use mathlib.Core.Path.{_≡_};
-ghost use Rattle.clock.specs.Tick.{tickOf};
-use clock::Clock;
-use clock::Outcome;
+// The clock for programs in C: c/heukelvos.h declares these functions and says what each owes. `rt staticlib heukelvos` writes the library.
+mod lent;
+mod value;
 
-#[no_mangle]
-pub extern "C" fn heukelvos_ticked(c: Clock) -> Outcome
-    ensures { λ r. ⌜ r ≡ tickOf c ⌝ }
-{
-    clock::tick(c)
-}
-
-#[no_mangle]
-pub extern "C" fn heukelvos_tick(c: &mut Clock) -> u8
-    ensures { λ r. ⌜ (r ≡ tickOf (now (c .entry)) .refusal) × (now (c .exit) ≡ tickOf (now (c .entry)) .clock) ⌝ }
-{
-    let done = clock::tick(*c);
-    *c = done.clock;
-    done.refusal
-}
+pub use lent::Counted;
+pub use lent::heukelvos_catch_up;
+pub use lent::heukelvos_tick;
+pub use value::heukelvos_adjust;
+pub use value::heukelvos_caught_up;
+pub use value::heukelvos_fresh;
+pub use value::heukelvos_in_range;
+pub use value::heukelvos_label;
+pub use value::heukelvos_read;
+pub use value::heukelvos_set;
+pub use value::heukelvos_ticked;
