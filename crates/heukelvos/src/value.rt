@@ -29,11 +29,13 @@ pub extern "C" fn heukelvos_in_range(c: Clock) -> bool
     clock::in_range(c)
 }
 
+// By a run of one tick: so `clock::tick` has one caller in the library, `heukelvos_tick`, and is put into it. With two it is a call there,
+// and copies the clock twice.
 #[no_mangle]
 pub extern "C" fn heukelvos_ticked(c: Clock) -> Outcome
     ensures { λ r. ⌜ r ≡ tickOf c ⌝ }
 {
-    clock::tick(c)
+    clock::run_ticks(c, 1)
 }
 
 #[no_mangle]
