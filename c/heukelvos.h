@@ -89,7 +89,7 @@ enum heukelvos_mode {
 struct heukelvos_clock {
 	uint32_t seconds;   /* since 1970-01-01T00:00:00Z */
 	uint32_t micros;    /* of the second, 0 to 999,999 us */
-	int32_t phase;      /* the part of a microsecond that no reading shows; phase units, strictly within a microsecond either way */
+	int32_t phase;      /* the part of a microsecond that no reading shows; phase units, less than a microsecond either way */
 	int32_t offset;     /* what is left of the last offset; offset units, at most HEUKELVOS_MAX_OFFSET either way */
 	int32_t frequency;  /* frequency units, at most HEUKELVOS_MAX_FREQUENCY either way */
 	int32_t adjustment; /* what each tick adds to the phase; phase units, HEUKELVOS_LEAST_ADJUSTMENT to HEUKELVOS_MOST_ADJUSTMENT */
@@ -122,7 +122,10 @@ struct heukelvos_counted {
 	uint8_t tick_refusal;
 };
 
-/* A request, 56 bytes. The mode adds up the bits of the fields that it selects; the others are not looked at. All 64 bits of a field count. */
+/*
+ * A request, 56 bytes. The mode adds up the bits of the fields that it selects; the others are not looked at. Nothing is cut: all 64 bits
+ * of a field count.
+ */
 struct heukelvos_request {
 	uint64_t mode;
 	int64_t offset;    /* us */

@@ -75,11 +75,10 @@ static void show(const char *name, Clock c)
 	       c.maxerror, c.esterror, c.status);
 }
 
-/* A clock by requests: `set` to a time, then a frequency (units), an offset (us), a time constant and a status. */
-static Clock adjusted(uint64_t seconds, uint64_t micros, int64_t frequency, int64_t offset, uint64_t constant, uint64_t status)
+/* A clock with a frequency (units), an offset (us), a time constant and then a status asked for. */
+static Clock asked_for(Clock c, int64_t frequency, int64_t offset, uint64_t constant, uint64_t status)
 {
 	struct heukelvos_request r = { 0 };
-	Clock c = heukelvos_set(heukelvos_fresh(), seconds, micros).clock;
 	r.mode = HEUKELVOS_ADJ_OFFSET | HEUKELVOS_ADJ_FREQUENCY | HEUKELVOS_ADJ_TIMECONST;
 	r.offset = offset;
 	r.frequency = frequency;
@@ -88,6 +87,12 @@ static Clock adjusted(uint64_t seconds, uint64_t micros, int64_t frequency, int6
 	r.mode = HEUKELVOS_ADJ_STATUS;
 	r.status = status;
 	return heukelvos_adjust(c, r).clock;
+}
+
+/* The same of a fresh clock that was set to a time. */
+static Clock adjusted(uint64_t seconds, uint64_t micros, int64_t frequency, int64_t offset, uint64_t constant, uint64_t status)
+{
+	return asked_for(heukelvos_set(heukelvos_fresh(), seconds, micros).clock, frequency, offset, constant, status);
 }
 
 /* What heukelvos.h says of a catch-up, by single ticks in place. The microseconds fall at a rollover, also where a second is inserted. */
@@ -185,13 +190,33 @@ static Clock unsound(int n)
 	return c;
 }
 
+/* Clocks with fields at the ends of their ranges. */
+static bool ends(void)
+{
+	Clock most = heukelvos_fresh(), least = most;
+	most.seconds = most.reftime = HEUKELVOS_LAST_SECOND;
+	most.micros = HEUKELVOS_LAST_MICRO;
+	most.phase = HEUKELVOS_PHASE_PER_MICRO - 1;
+	most.offset = HEUKELVOS_MAX_OFFSET;
+	most.frequency = HEUKELVOS_MAX_FREQUENCY;
+	most.adjustment = HEUKELVOS_MOST_ADJUSTMENT;
+	most.constant = HEUKELVOS_MAX_CONSTANT;
+	most.updated = 1;
+	least.phase = 1 - HEUKELVOS_PHASE_PER_MICRO;
+	least.offset = -HEUKELVOS_MAX_OFFSET;
+	least.frequency = -HEUKELVOS_MAX_FREQUENCY;
+	least.adjustment = HEUKELVOS_LEAST_ADJUSTMENT;
+	least.maxerror = least.esterror = least.status = 0;
+	return heukelvos_in_range(most) && heukelvos_in_range(least);
+}
+
 static bool layout(void)
 {
 	Clock fresh = { 0 };
 	fresh.adjustment = HEUKELVOS_PHASE_PER_MICRO / 4;
 	fresh.maxerror = fresh.esterror = HEUKELVOS_MAX_ERROR;
 	fresh.status = HEUKELVOS_TIME_BAD;
-	if (!same(heukelvos_fresh(), fresh) || !heukelvos_in_range(fresh))
+	if (!same(heukelvos_fresh(), fresh) || !heukelvos_in_range(fresh) || !ends())
 		return false;
 	for (int n = 0; n < FAULTS; n++)
 		if (heukelvos_in_range(unsound(n)))
@@ -268,6 +293,34 @@ static bool random_runs(void)
 	return right;
 }
 
+/* The refusal of a request that asks for one thing. */
+static uint8_t asked(uint64_t mode, int64_t number)
+{
+	struct heukelvos_request r = { mode, number, number, number, number, number, number };
+	struct heukelvos_outcome o = heukelvos_adjust(heukelvos_fresh(), r);
+	if (o.refusal != 0 && !same(o.clock, heukelvos_fresh()))
+		return UINT8_MAX;
+	return o.refusal;
+}
+
+/* Each bit of the mode selects its field, whose refusal has its number at the first value that is not allowed. */
+static bool requests(void)
+{
+	return asked(63, 0) == 0 && asked(64, 0) == HEUKELVOS_MODE
+		&& asked(HEUKELVOS_ADJ_OFFSET, HEUKELVOS_MAX_OFFSET_MICROS) == 0
+		&& asked(HEUKELVOS_ADJ_OFFSET, -HEUKELVOS_MAX_OFFSET_MICROS - 1) == HEUKELVOS_OFFSET
+		&& asked(HEUKELVOS_ADJ_FREQUENCY, 1 - HEUKELVOS_MAX_FREQUENCY) == 0
+		&& asked(HEUKELVOS_ADJ_FREQUENCY, HEUKELVOS_MAX_FREQUENCY) == HEUKELVOS_FREQUENCY
+		&& asked(HEUKELVOS_ADJ_MAXERROR, HEUKELVOS_MAX_ERROR) == 0
+		&& asked(HEUKELVOS_ADJ_MAXERROR, HEUKELVOS_MAX_ERROR + 1) == HEUKELVOS_ERROR
+		&& asked(HEUKELVOS_ADJ_ESTERROR, HEUKELVOS_MAX_ERROR) == 0
+		&& asked(HEUKELVOS_ADJ_ESTERROR, HEUKELVOS_MAX_ERROR + 1) == HEUKELVOS_ERROR
+		&& asked(HEUKELVOS_ADJ_STATUS, HEUKELVOS_TIME_BAD) == 0
+		&& asked(HEUKELVOS_ADJ_STATUS, HEUKELVOS_TIME_BAD + 1) == HEUKELVOS_STATUS
+		&& asked(HEUKELVOS_ADJ_TIMECONST, HEUKELVOS_MAX_CONSTANT) == 0
+		&& asked(HEUKELVOS_ADJ_TIMECONST, HEUKELVOS_MAX_CONSTANT + 1) == HEUKELVOS_CONSTANT;
+}
+
 static bool other_calls(void)
 {
 	uint8_t text[22], untouched[22];
@@ -276,8 +329,6 @@ static bool other_calls(void)
 	Clock c = sound(2);
 	struct heukelvos_told t = heukelvos_read(c);
 	struct heukelvos_told none = heukelvos_read(unsound(0));
-	struct heukelvos_request r = { 0 };
-	r.mode = 64;
 	return heukelvos_label(c, text, 19) == HEUKELVOS_ROOM && memcmp(text, untouched, sizeof text) == 0
 		&& heukelvos_label(unsound(0), text, 0) == HEUKELVOS_STATE && memcmp(text, untouched, sizeof text) == 0
 		&& heukelvos_label(c, text, sizeof text) == 0 && memcmp(text, "2026-12-31T23:59:58Zxx", sizeof text) == 0
@@ -285,7 +336,6 @@ static bool other_calls(void)
 		&& t.reading.maxerror == c.maxerror && t.reading.esterror == c.esterror
 		&& none.refusal == HEUKELVOS_STATE && none.reading.seconds == 0 && none.reading.micros == 0
 		&& none.reading.status == HEUKELVOS_TIME_BAD && none.reading.maxerror == 0 && none.reading.esterror == 0
-		&& heukelvos_adjust(c, r).refusal == HEUKELVOS_MODE && same(heukelvos_adjust(c, r).clock, c)
 		&& heukelvos_set(c, UINT64_C(1) << 32, 0).refusal == HEUKELVOS_TIME && same(heukelvos_set(c, 0, 1000000).clock, c);
 }
 
@@ -317,7 +367,7 @@ static void slept(uint64_t ceiling, bool stop)
 
 static void set(uint64_t seconds, int64_t offset, int64_t frequency, uint64_t status)
 {
-	day = adjusted(seconds, 0, frequency, offset, 1, status);
+	day = asked_for(heukelvos_set(day, seconds, 0).clock, frequency, offset, 1, status);
 	if (history)
 		printf("set %" PRIu64 " 0\nrequest offset %" PRId64 " frequency %" PRId64 " constant 1\nrequest status %" PRIu64 "\n",
 		       seconds, offset, frequency, status);
@@ -325,6 +375,7 @@ static void set(uint64_t seconds, int64_t offset, int64_t frequency, uint64_t st
 
 static void day_of_calls(void)
 {
+	day = heukelvos_fresh();
 	set(1798750000, 90000, -5 * HEUKELVOS_FREQUENCY_PER_PPM, HEUKELVOS_TIME_INS);
 	for (int n = 0; n < 1000000; n++)
 		heukelvos_tick(&day);
@@ -365,6 +416,7 @@ int main(int argc, char **argv)
 	check("ticks that are refused", refused_ticks());
 	check("catch-ups at their edges: lent, by value, by single ticks", edges());
 	check("catch-ups of random clocks: lent, by value, by single ticks", random_runs());
-	check("settings, requests, readings, labels", other_calls());
+	check("requests", requests());
+	check("settings, readings, labels", other_calls());
 	return failed != 0;
 }
