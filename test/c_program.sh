@@ -61,10 +61,8 @@ ends_as_the_replay() {
 
 tell "the header's numbers are the crates'" same_numbers
 tell "the header's refusals are the reference's" same_refusals
-if ! command -v gcc >/dev/null; then
-    pass_over "the program in C" "gcc is not on this machine"
-elif [ "$(uname -m)" != x86_64 ]; then
-    pass_over "the program in C" "the library is for x86-64, and this machine is $(uname -m)"
+if [ -n "$(no_c)" ]; then
+    pass_over "the program in C" "$(no_c)"
 else
     tell "the header in C99" plain_c
     if command -v g++ >/dev/null; then
