@@ -1,5 +1,5 @@
 -- `heukelvos::heukelvos_catch_up`: a walk of its MIR, over the by-value catch-up.
-use mathlib.Core.Path.{_≡_, refl, ap}
+use mathlib.Core.Path.{_≡_, refl, sym, ap, subst}
 use Prim.Native.Nat.{ℕ, _<_, _^_}
 use mathlib.Core.Bool.{Bool}
 use mathlib.Core.List.{List, [], _∷_}
@@ -39,7 +39,7 @@ use denote.Triple.Walked.{says, Stays, stay-ref, stay-dropped, walkOf, AllGo, go
 use denote.Triple.Clauses.{ensured, lasts}
 use Rattle.clock.specs.Ticks.{catchUpOf}
 use Rattle.clock.specs.declared.state.Clock.{Clock}
-use Rattle.heukelvos.specs.Lent.{parted}
+use Rattle.heukelvos.specs.Lent.{Kept, parted}
 use Rattle.heukelvos.specs.declared.lent.Counted.{Counted}
 use Rattle.heukelvos.specs.declared.lent.Parted.{Parted}
 use Rattle.clock.proofs.state.Clock as T
@@ -52,6 +52,7 @@ use Rattle.heukelvos.proofs.lent.caught_up as callee
 use Rattle.heukelvos.proofs.lent.caught_up.Symbol as callee-def
 use Rattle.heukelvos.proofs.lent.caught_up.Symbol.{name as #callee}
 use Rattle.heukelvos.proofs.lent.caught_up.Met as callee-thm
+use Rattle.heukelvos.proofs.Kept.{catch-up-kept}
 use Rattle.heukelvos.proofs.InPlace.{value, IsClock, is-value, opened, handed-back, answered}
 use Rattle.heukelvos.proofs.lent.heukelvos_catch_up.Key.{name as #this}
 use Rattle.heukelvos.proofs.lent.heukelvos_catch_up as f
@@ -94,7 +95,7 @@ module _ {M : Type 1} (𝓤 : URA M) (H : Heap 𝓤) (A : Atoms 𝓤) (W : Given
   exits : (r : Parted) → r ≡ parted (catchUpOf h n s) → IsCounted (r .answer) → ent 𝓤 (⋆ 𝓤 H A (‵ (fobs γ (T.the-row .coded .code (r .clock))) ∷ ‵ (fbor κ (Body (mem T.the-row) b o γ)) ∷ ‵ (flft κ q) ∷ [])) (Post (told (r .answer)))
   exits r e fits =
       qed W (‵ (fobs γ (T.the-row .coded .code (r .clock))) ∷ ‵ (fbor κ (Body (mem T.the-row) b o γ)) ∷ ‵ (flft κ q) ∷ []) ∵
-      suffices ! _ (ends-at 𝓤 H A f.ended stayed (f.clauses 𝓤 H A at-mem run) W (((κ, tt), (q, tt), tt, x, at), tt) (told (r .answer)) (r .answer) (r .clock, (tt, (tt, tt))) (tt, (tt, (tt, tt)))) $ says ! (ap (λ (t : Parted). t .answer) e, ap (λ (t : Parted). t .clock) e) $
+      suffices ! _ (ends-at 𝓤 H A f.ended stayed (f.clauses 𝓤 H A at-mem run) W (((κ, tt), (q, tt), tt, x, at), tt) (told (r .answer)) (r .answer) (r .clock, (tt, (tt, tt))) (tt, (tt, (tt, tt)))) $ says ! (ap (λ (t : Parted). t .answer) e, ap (λ (t : Parted). t .clock) e, subst (λ (t : Parted). Kept (t .answer .refusal) h (t .clock)) (sym e) (catch-up-kept h n s)) $
       nothing ! $ move ! (3 ∷ 0 ∷ []) $ join ! $ frame ! $ feqI ! (List Val) (vptr b o ∷ []) (vptr b o ∷ []) refl $ fjoin3 ! $ nothing ! $ nothing ! $ fjoin ! $ nothing ! $ fjoin ! $ move ! (1 ∷ 0 ∷ []) $ fjoin ! $
       owned ! N.the-row (Is N.the-row) (L.makes N.the-type N′.the-plain 𝓤 H A) (r .answer) _ fits $ move ! (1 ∷ 0 ∷ []) $ done !
 
