@@ -1,0 +1,67 @@
+-- What it is worth that a list of events is read as its ticks made singly: clock, answers and book are the same.
+use Prim.Native.Nat.{ℕ, suc, _≤_, _<_}
+use mathlib.Core.Path.{_≡_}
+use mathlib.Core.Bool.{Bool, true, false, _&&_}
+use mathlib.Core.List.{List, [], _∷_, _++_}
+use Rattle.clock.specs.State.{freshClock}
+use Rattle.clock.specs.Tick.{rollsOver}
+use Rattle.clock.specs.declared.state.Clock.{Clock}
+use Rattle.event.specs.Event.{callOf, stepOf}
+use Rattle.event.specs.declared.event.Call as call
+use Rattle.event.specs.declared.event.Call.the-variants.{Tick}
+use Rattle.event.specs.declared.event.Event.{Event}
+use Rattle.event.specs.declared.event.Event.the-variants.{Call, CatchUp}
+use Rattle.event.specs.declared.event.Stepped.{Stepped}
+use Rattle.bounds.specs.Calls.{after, clockAfter}
+use Rattle.bounds.specs.Singly.{singleTicks, singleCalls, singlyFrom, singly}
+use Rattle.bounds.specs.Book.{bookFrom}
+use Rattle.bounds.specs.Demand.{bookOf}
+
+-- Where single ticks of c end that answer a: "until ceiling, rollover or first refusal". The ceiling comes first: at it no refusal is
+-- looked for.
+pub data EndsAt (c : Clock) (ceiling : ℕ) (stop : Bool) (a : Stepped) : Type 0 where
+  atCeiling : a .count ≡ ceiling → a .«tick_refusal» ≡ 0 → EndsAt c ceiling stop a
+  atRollover : stop ≡ true → (last : ℕ) → a .count ≡ suc last → rollsOver (after c (singleTicks last)) ≡ true → a .«tick_refusal» ≡ 0
+      → EndsAt c ceiling stop a
+  atRefusal : a .count < ceiling → 0 < a .«tick_refusal» → callOf (a .clock) Tick .refusal ≡ a .«tick_refusal» → EndsAt c ceiling stop a
+
+-- an accepted catch-up on c, by the single ticks in its place
+pub record Ticked (c : Clock) (ceiling : ℕ) (stop : Bool) (a : Stepped) : Type 0 where
+  -- its clock is the one after them
+  pub clock : a .clock ≡ after c (singleTicks (a .count))
+  -- its count is theirs: they are accepted, each of them,
+  pub accepted : (j : ℕ) → j < a .count → callOf (after c (singleTicks j)) Tick .refusal ≡ 0
+  -- and none is made past the ceiling, or after a rollover to stop at
+  pub most : a .count ≤ ceiling
+  pub onward : (j : ℕ) → suc j < a .count → (stop && rollsOver (after c (singleTicks j))) ≡ false
+  pub ends : EndsAt c ceiling stop a
+
+-- a refused catch-up: no tick, and the clock that it got
+pub record Untouched (c : Clock) (a : Stepped) : Type 0 where
+  pub count : a .count ≡ 0
+  pub tickRefusal : a .«tick_refusal» ≡ 0
+  pub clock : a .clock ≡ c
+
+-- the answer of an event that gets c
+abbrev pub AnswersAs : Clock → Event → Type 0
+AnswersAs c (Call e) = stepOf c (Call e) ≡ callOf c e
+AnswersAs c (CatchUp ceiling stop) =
+    let a = stepOf c (CatchUp ceiling stop) in
+    (a .refusal ≡ 0 → Ticked c ceiling stop a) × ((a .refusal ≡ 0 → ⊥) → Untouched c a)
+
+-- An event of the list, with those before it and those after it: its single calls stand in its place, they get the clock that it gets, and
+-- it answers as they do. The book goes on there from that clock.
+pub record InPlace (before later : List Event) (e : Event) : Type 0 where
+  pub place : singly (before ++ (e ∷ later)) ≡ singly before ++ (singleCalls (clockAfter before) e ++ singlyFrom (stepOf (clockAfter before) e .clock) later)
+  pub got : clockAfter before ≡ after freshClock (singly before)
+  pub answers : AnswersAs (clockAfter before) e
+  pub left : stepOf (clockAfter before) e .clock ≡ after (clockAfter before) (singleCalls (clockAfter before) e)
+  pub book : bookOf (before ++ (e ∷ [])) ≡ bookFrom (clockAfter before) (bookOf before) (singleCalls (clockAfter before) e)
+
+-- a list of events, and its ticks made singly
+pub record MadeSingly (events : List Event) : Type 0 where
+  pub clock : clockAfter events ≡ after freshClock (singly events)
+  pub each : (before later : List Event) (e : Event) → events ≡ before ++ (e ∷ later) → InPlace before later e
+
+abbrev pub EveryListMadeSingly : Type 0
+EveryListMadeSingly = (events : List Event) → MadeSingly events
