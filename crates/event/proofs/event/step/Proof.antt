@@ -22,7 +22,7 @@ returns : tie.Need-returns
 returns c = simp (c .before .before .e .given .1, c .step-call .ensures)
 
 returns-2 : tie.Need-returns-2
-returns-2 c = simp (c .before .before .before .e2 .given .1, c .step-many .ensures, c .before .catch-up .ensures)
+returns-2 c = simp (c .before .before .before .e2 .given .1, c .step-many .ensures, c .before .catch-up .ensures .0)
 
 pub step-spec : {M : Type 1} → statement M
 step-spec =
