@@ -1,5 +1,5 @@
 -- A list of events and its ticks made singly: clock, answers and book agree.
-use mathlib.Core.Path.{_≡_, refl, sym, _∙_, ap}
+use mathlib.Core.Path.{_≡_, refl, sym, _∙_, ap, subst}
 use mathlib.Core.List.{List, [], _∷_, _++_, append-assoc, append-nil}
 use Rattle.clock.specs.State.{freshClock}
 use Rattle.clock.specs.declared.state.Clock.{Clock}
@@ -10,7 +10,7 @@ use Rattle.bounds.specs.Calls.{afterBy, after, clockAfter}
 use Rattle.bounds.specs.Singly.{singleCalls, singlyFrom, singly}
 use Rattle.bounds.specs.Book.{emptyBook, bookFrom}
 use Rattle.bounds.specs.Demand.{bookOf}
-use Rattle.bounds.specs.MadeSingly.{InPlace, EveryListMadeSingly}
+use Rattle.bounds.specs.MadeSingly.{AnswersAs, InPlace, EveryListMadeSingly}
 use Rattle.bounds.proofs.Runs.{after-append, bookFrom-append}
 use Rattle.bounds.proofs.Ticked.{answers-as, clock-singly}
 
@@ -43,13 +43,11 @@ module _ (before : List Event) (e : Event) where
       ∙ ap (λ (c : Clock). bookFrom c (bookOf before) (singleCalls (clockAfter before) e)) (sym (after-singly freshClock before))
 
   in-place : (later : List Event) → InPlace before later e
-  unfolding singlyFrom
+  unfolding singlyFrom afterBy
   in-place later =
       record {
-        place = singly-append freshClock before (e ∷ later);
-        got = after-singly freshClock before;
-        answers = answers-as (clockAfter before) e;
-        left = clock-singly (clockAfter before) e;
+        place = rw (after-append stepOf freshClock before (e ∷ [])) (singly-append freshClock before (e ∷ later));
+        answers = subst (λ (c : Clock). AnswersAs (clockAfter before) c e) (after-singly freshClock before) (answers-as (clockAfter before) e);
         book = book-last;
       }
 

@@ -1,15 +1,18 @@
 -- A catch-up by the single ticks in its place: by induction on the ceiling, the first tick and then the others.
 use mathlib.Core.Path.{_≡_, refl, sym, _∙_, ap}
-use mathlib.Core.Bool.{Bool, true, false, _&&_}
+use mathlib.Core.Bool.{Bool, true, false, _&&_, true≢false}
 use Prim.Native.Nat.{ℕ, zero, suc, _<_}
 use native.Mathlib.Omega.{arith}
 use lib.Dec.{eqb}
 use borrow.Author.Tests.{eq-eqb, eqb-true, eqb-false}
 use Rattle.integers.proofs.Ranges.{and-true}
+use Rattle.clock.specs.State.{inRange}
 use Rattle.clock.specs.Tick.{rollsOver, tickOf}
 use Rattle.clock.specs.Ticks.{ranOf, oneMore, catchUpRefusal, catchUpOf}
 use Rattle.clock.specs.declared.state.Clock.{Clock}
 use Rattle.clock.specs.declared.run.CaughtUp.{CaughtUp}
+use Rattle.clock.proofs.TickCases.{TickCase, out, last, plain, rolls, tickCase}
+use Rattle.clock.proofs.RunLaws.{ticked-in-range}
 use Rattle.event.specs.Event.{callOf, stepMany, stepOf}
 use Rattle.event.specs.declared.event.Call.the-variants.{Tick}
 use Rattle.event.specs.declared.event.Event.{Event}
@@ -17,6 +20,18 @@ use Rattle.event.specs.declared.event.Event.the-variants.{Call, CatchUp}
 use Rattle.bounds.specs.Calls.{afterBy, after}
 use Rattle.bounds.specs.Singly.{singleTicks, singleCalls}
 use Rattle.bounds.specs.MadeSingly.{EndsAt, atCeiling, atRollover, atRefusal, Ticked, Untouched, AnswersAs}
+
+-- a tick of a clock in range is refused with 3 alone
+only-three : (c : Clock) → inRange c ≡ true → TickCase c → (tickOf c .refusal ≡ 0 → ⊥) → tickOf c .refusal ≡ 3
+only-three c k (out t e) h = absurd (true≢false (sym k ∙ t))
+only-three c k (last o l e) h = simp e
+only-three c k (plain o t l e) h = absurd (h (simp e))
+only-three c k (rolls o t l s e) h = absurd (h (simp e))
+
+-- where a catch-up is accepted the clock is in range
+accepted-in-range : (c : Clock) (ceiling : ℕ) (b : Bool) → inRange c ≡ b → eqb (catchUpRefusal c ceiling) 0 ≡ true → inRange c ≡ true
+accepted-in-range c ceiling true k t = k
+accepted-in-range c ceiling false k t = absurd (true≢false (sym t ∙ simp k))
 
 module _ (stop : Bool) where
   abbrev Run : ℕ → Clock → Type 0
@@ -50,21 +65,20 @@ module _ (stop : Bool) where
     ends-later : (n : ℕ) (r : CaughtUp) → EndsAt (tickOf c .clock) n stop (stepMany r) → EndsAt c (suc n) stop (stepMany (oneMore r))
     unfolding afterBy singleTicks
     ends-later n r (atCeiling e z) = atCeiling (ap suc e) z
-    ends-later n r (atRollover s last e o z) = atRollover s (suc last) (ap suc e) o z
-    ends-later n r (atRefusal l p e) = atRefusal (omega (arith, l)) p e
+    ends-later n r (atRollover s j e o z) = atRollover s (suc j) (ap suc e) o z
+    ends-later n r (atRefusal l e z) = atRefusal (omega (arith, l)) e z
 
     module _ (n : ℕ) where
-      refused : eqb (tickOf c .refusal) 0 ≡ false → Run (suc n) c
+      refused : eqb (tickOf c .refusal) 0 ≡ false → tickOf c .refusal ≡ 3 → Run (suc n) c
       unfolding ranOf afterBy singleTicks
-      refused t =
-          let p : 0 < tickOf c .refusal = omega (arith, eqb-false (tickOf c .refusal) 0 t) in
+      refused t e =
           simp t
           (record {
             clock = refl;
             accepted = λ j h. absurd (omega (arith, h));
             most = omega arith;
             onward = λ j h. absurd (omega (arith, h));
-            ends = atRefusal (omega arith) p refl;
+            ends = atRefusal (omega arith) e e;
           })
 
       stopped : eqb (tickOf c .refusal) 0 ≡ true → (stop && rollsOver c) ≡ true → Run (suc n) c
@@ -96,13 +110,13 @@ module _ (stop : Bool) where
       by-rollover t true o r = stopped t o
       by-rollover t false o r = gone-on t o r
 
-      by-refusal : (t : Bool) → eqb (tickOf c .refusal) 0 ≡ t → Run n (tickOf c .clock) → Run (suc n) c
-      by-refusal true t r = by-rollover t (stop && rollsOver c) refl r
-      by-refusal false t r = refused t
+      by-refusal : inRange c ≡ true → (t : Bool) → eqb (tickOf c .refusal) 0 ≡ t → Run n (tickOf c .clock) → Run (suc n) c
+      by-refusal k true t r = by-rollover t (stop && rollsOver c) refl r
+      by-refusal k false t r = refused t (only-three c k (tickCase c) (eqb-false _ _ t))
 
-  ticked : (n : ℕ) (c : Clock) → Run n c
-  ticked zero c = none c
-  ticked (suc n) c = by-refusal c n (eqb (tickOf c .refusal) 0) refl (ticked n (tickOf c .clock))
+  ticked : (n : ℕ) (c : Clock) → inRange c ≡ true → Run n c
+  ticked zero c k = none c
+  ticked (suc n) c k = by-refusal c n k (eqb (tickOf c .refusal) 0) refl (ticked n (tickOf c .clock) (ticked-in-range c k (tickCase c)))
 
   -- a run is not refused
   later-accepted : (n : ℕ) (c : Clock) → ranOf stop n (tickOf c .clock) .refusal ≡ 0 → (t o : Bool) → eqb (tickOf c .refusal) 0 ≡ t → (stop && rollsOver c) ≡ o
@@ -118,18 +132,21 @@ module _ (stop : Bool) where
   run-accepted (suc n) c = later-accepted n c (run-accepted n (tickOf c .clock)) (eqb (tickOf c .refusal) 0) (stop && rollsOver c) refl refl
 
   module _ (c : Clock) (ceiling : ℕ) where
-    by-call : (b : Bool) → eqb (catchUpRefusal c ceiling) 0 ≡ b → AnswersAs c (CatchUp ceiling stop)
+    in-range : eqb (catchUpRefusal c ceiling) 0 ≡ true → inRange c ≡ true
+    in-range t = accepted-in-range c ceiling (inRange c) refl t
+
+    by-call : (b : Bool) → eqb (catchUpRefusal c ceiling) 0 ≡ b → AnswersAs c c (CatchUp ceiling stop)
     unfolding catchUpOf
-    by-call true t = simp t ((λ z. ticked ceiling c), (λ n. absurd (n (run-accepted ceiling c))))
+    by-call true t = simp t ((λ z. ticked ceiling c (in-range t)), (λ n. absurd (n (run-accepted ceiling c))))
     by-call false t = simp t ((λ z. absurd (eqb-false (catchUpRefusal c ceiling) 0 t z)), (λ n. record { count = refl; tickRefusal = refl; clock = refl }))
 
     clock-by-call : (b : Bool) → eqb (catchUpRefusal c ceiling) 0 ≡ b
         → stepOf c (CatchUp ceiling stop) .clock ≡ after c (singleCalls c (CatchUp ceiling stop))
     unfolding catchUpOf afterBy singleTicks
-    clock-by-call true t = simp t (ticked ceiling c .clock)
+    clock-by-call true t = simp t (ticked ceiling c (in-range t) .clock)
     clock-by-call false t = simp t
 
-pub answers-as : (c : Clock) (e : Event) → AnswersAs c e
+pub answers-as : (c : Clock) (e : Event) → AnswersAs c c e
 answers-as c (Call e) = refl
 answers-as c (CatchUp ceiling stop) = by-call stop c ceiling (eqb (catchUpRefusal c ceiling) 0) refl
 
