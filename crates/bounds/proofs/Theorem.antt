@@ -1,5 +1,5 @@
 -- Demand 3 holds of every list of events: the invariants of its single calls are those of its clock and book.
-use mathlib.Core.Path.{_≡_, sym, _∙_, ap}
+use mathlib.Core.Path.{_≡_, _∙_}
 use mathlib.Core.Bool.{true}
 use mathlib.Core.List.{List, [], _∷_, _++_}
 use Prim.Native.Nat.{_*_}

@@ -4,7 +4,7 @@ use mathlib.Core.Bool.{Bool, true, false, _&&_, true≢false}
 use Prim.Native.Nat.{ℕ, zero, suc, _<_}
 use native.Mathlib.Omega.{arith}
 use lib.Dec.{eqb}
-use borrow.Author.Tests.{eq-eqb, eqb-true, eqb-false}
+use borrow.Author.Tests.{eqb-true, eqb-false}
 use Rattle.integers.proofs.Ranges.{and-true}
 use Rattle.clock.specs.State.{inRange}
 use Rattle.clock.specs.Tick.{rollsOver, tickOf}
@@ -19,7 +19,7 @@ use Rattle.event.specs.declared.event.Event.{Event}
 use Rattle.event.specs.declared.event.Event.the-variants.{Call, CatchUp}
 use Rattle.bounds.specs.Calls.{afterBy, after}
 use Rattle.bounds.specs.Singly.{singleTicks, singleCalls}
-use Rattle.bounds.specs.MadeSingly.{EndsAt, atCeiling, atRollover, atRefusal, Ticked, Untouched, AnswersAs}
+use Rattle.bounds.specs.MadeSingly.{EndsAt, atCeiling, atRollover, atRefusal, Ticked, AnswersAs}
 
 -- a tick of a clock in range is refused with 3 alone
 only-three : (c : Clock) → inRange c ≡ true → TickCase c → (tickOf c .refusal ≡ 0 → ⊥) → tickOf c .refusal ≡ 3

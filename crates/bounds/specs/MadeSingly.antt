@@ -1,4 +1,4 @@
--- What it is worth that a list of events is read as its ticks made singly: clock, answers and book are the same.
+-- A list of events and its ticks made singly agree: in the clock, in each answer and in the book.
 use Prim.Native.Nat.{ℕ, suc, _≤_, _<_}
 use mathlib.Core.Path.{_≡_}
 use mathlib.Core.Bool.{Bool, true, false, _&&_}
@@ -55,7 +55,8 @@ singlyAfter events = after freshClock (singly events)
 -- An event of a list, with those before it and those after it.
 pub record InPlace (before later : List Event) (e : Event) : Type 0 where
   -- its single calls stand in its place
-  pub place : singly (before ++ (e ∷ later)) ≡ singly before ++ (singleCalls (clockAfter before) e ++ singlyFrom (clockAfter (before ++ (e ∷ []))) later)
+  pub place : singly (before ++ (e ∷ later))
+      ≡ singly before ++ (singleCalls (clockAfter before) e ++ singlyFrom (clockAfter (before ++ (e ∷ []))) later)
   -- it answers as they do
   pub answers : AnswersAs (clockAfter before) (singlyAfter before) e
   -- the book goes on with them from the clock that it gets

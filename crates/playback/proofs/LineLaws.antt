@@ -18,7 +18,6 @@ use Rattle.label.specs.Writing.{writeRefusal, writtenTo}
 use Rattle.label.proofs.Room.{twenty}
 use Rattle.event.specs.declared.event.Call as call
 use Rattle.event.specs.declared.event.Call.the-variants.{Tick, Setting, Request, Reading}
-use Rattle.history.specs.declared.Event.{Event}
 use Rattle.history.specs.declared.Event.the-variants.{Ticks, Call}
 use Rattle.clock.specs.Ticks.{ticksOf}
 use Rattle.playback.specs.Lines.{space, newline, refusedLine, logLine, printLine}
