@@ -24,8 +24,8 @@ use Rattle.request.specs.Request.{selectsOffset, requested, requestOf}
 use Rattle.request.specs.declared.request.Request.{Request}
 use Rattle.request.proofs.Accepted.{requested-ok}
 use Rattle.request.proofs.RequestCases as req
-use Rattle.event.specs.declared.event.Event.{Event}
-use Rattle.event.specs.declared.event.Event.the-variants as call
+use Rattle.event.specs.declared.event.Call.{Call}
+use Rattle.event.specs.declared.event.Call.the-variants as call
 use Rattle.bounds.specs.Calls.{next, afterBy, after}
 use Rattle.bounds.specs.Book.{Book, emptyBook, tickBook, leapExact, rolloverBook, requestBook, callBook, bookFrom}
 use Rattle.bounds.proofs.Runs.{fresh-ok}
@@ -134,13 +134,13 @@ module _ (c : Clock) (b : Book) (i : Inv c b) where
   request-inv r (req.refused n e h) = simp (e, not-zero n h) i
   request-inv r (req.done a e) = simp e (requested-inv r (selectsOffset r) refl (requested-ok c r a))
 
-  pub step-inv : (e : Event) → Inv (next c e) (callBook c e b)
+  pub step-inv : (e : Call) → Inv (next c e) (callBook c e b)
   step-inv call.Tick = tick-inv (tickCase c)
   step-inv (call.Setting s u) = set-inv s u (settingCase c s u)
   step-inv (call.Request r) = request-inv r (req.requestCase c r)
   step-inv call.Reading = i
 
-pub run-inv : (c : Clock) (b : Book) (es : List Event) → Inv c b → Inv (after c es) (bookFrom c b es)
+pub run-inv : (c : Clock) (b : Book) (es : List Call) → Inv c b → Inv (after c es) (bookFrom c b es)
 unfolding afterBy bookFrom
 run-inv c b [] i = i
 run-inv c b (e ∷ es) i = run-inv (next c e) (callBook c e b) es (step-inv c b i e)

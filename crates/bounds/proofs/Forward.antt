@@ -19,8 +19,8 @@ use Rattle.clock.proofs.TickLaws.{grown-eq, carry-parts}
 use Rattle.request.specs.Request.{requested, requestOf}
 use Rattle.request.specs.declared.request.Request.{Request}
 use Rattle.request.proofs.RequestCases as req
-use Rattle.event.specs.declared.event.Event.{Event}
-use Rattle.event.specs.declared.event.Event.the-variants as call
+use Rattle.event.specs.declared.event.Call.{Call}
+use Rattle.event.specs.declared.event.Call.the-variants as call
 use Rattle.bounds.specs.Calls.{next, afterBy, after, ticks, setsOrInserts, ticksAmong, neitherSetNorInserted}
 use Rattle.bounds.specs.Book.{Book, callBook}
 use Rattle.bounds.specs.Demand.{leastTick}
@@ -55,13 +55,13 @@ module _ (c : Clock) (k : Ok c) where
   request-forward r (req.refused n e p) = simp e (omega arith)
   request-forward r (req.done a e) = simp e (omega arith)
 
-  step-forward : (e : Event) → setsOrInserts c e ≡ false → told c + leastTick * cond (ticks c e) 1 0 ≤ told (next c e)
+  step-forward : (e : Call) → setsOrInserts c e ≡ false → told c + leastTick * cond (ticks c e) 1 0 ≤ told (next c e)
   step-forward call.Tick h = tick-forward (tickCase c) h
   step-forward (call.Setting s u) h = set-forward s u (settingCase c s u) h
   step-forward (call.Request r) h = request-forward r (req.requestCase c r)
   step-forward call.Reading h = omega arith
 
-pub forward : (c : Clock) (b : Book) (es : List Event) → Inv c b → neitherSetNorInserted c es ≡ true → told c + leastTick * ticksAmong c es ≤ told (after c es)
+pub forward : (c : Clock) (b : Book) (es : List Call) → Inv c b → neitherSetNorInserted c es ≡ true → told c + leastTick * ticksAmong c es ≤ told (after c es)
 unfolding afterBy neitherSetNorInserted ticksAmong
 forward c b [] i h = omega arith
 forward c b (e ∷ es) i h =

@@ -1,4 +1,6 @@
 pub mod Runs
+pub mod Ticked
+pub mod Singly
 pub mod Exact
 pub mod Moved
 pub mod Forward

@@ -22,8 +22,8 @@ use Rattle.clock.proofs.TickLaws.{grown-eq, grown-most, left-parts}
 use Rattle.request.specs.Request.{selectsOffset, requested, requestOf}
 use Rattle.request.specs.declared.request.Request.{Request}
 use Rattle.request.proofs.RequestCases as req
-use Rattle.event.specs.declared.event.Event.{Event}
-use Rattle.event.specs.declared.event.Event.the-variants as call
+use Rattle.event.specs.declared.event.Call.{Call}
+use Rattle.event.specs.declared.event.Call.the-variants as call
 use Rattle.bounds.specs.Calls.{next, afterBy, after}
 use Rattle.bounds.specs.Book.{Book, emptyBook, requestBook, callBook, bookFrom}
 use Rattle.bounds.specs.Demand.{takenOff, MovedAsTaken}
@@ -167,7 +167,7 @@ module _ (c : Clock) (b : Book) (i : Inv c b) where
   request-paid r (req.refused n e h) p = simp (e, not-zero n h) p
   request-paid r (req.done a e) p = simp e (requested-paid r (selectsOffset r) refl p)
 
-  step-paid : (e : Event) → Paid c b → Paid (next c e) (callBook c e b)
+  step-paid : (e : Call) → Paid c b → Paid (next c e) (callBook c e b)
   step-paid call.Tick p = tick-paid (tickCase c) p
   step-paid (call.Setting s u) p = set-paid s u (settingCase c s u) p
   step-paid (call.Request r) p = request-paid r (req.requestCase c r) p
@@ -185,7 +185,7 @@ module _ (c : Clock) (b : Book) (i : Inv c b) where
       let v = side-paid (p .N) (ticks-of (p .j) (p .pace) (λ _ zero. zero) l) in
       omega (arith, abs-parts z, abs-parts t, dz .eq, dt .eq, u, v, p .P .whole, p .N .whole, one-part z, one-part t, one-part (b .asked))
 
-pub run-paid : (c : Clock) (b : Book) (es : List Event) → Inv c b → Paid c b → Paid (after c es) (bookFrom c b es)
+pub run-paid : (c : Clock) (b : Book) (es : List Call) → Inv c b → Paid c b → Paid (after c es) (bookFrom c b es)
 unfolding afterBy bookFrom
 run-paid c b [] i p = p
 run-paid c b (e ∷ es) i p = run-paid (next c e) (callBook c e b) es (step-inv c b i e) (step-paid c b i e p)

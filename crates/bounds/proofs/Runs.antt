@@ -6,16 +6,17 @@ use Rattle.clock.specs.State.{freshClock}
 use Rattle.clock.specs.Reading.{readingOf, readingRefusal, shown}
 use Rattle.clock.specs.declared.state.Clock.{Clock}
 use Rattle.clock.proofs.Ok.{Ok, ok-back}
-use Rattle.event.specs.declared.event.Event.{Event}
+use Rattle.event.specs.declared.event.Call.{Call}
+use Rattle.event.specs.declared.event.Stepped.{Stepped}
 use Rattle.bounds.specs.Calls.{next, afterBy, after}
 use Rattle.bounds.specs.Book.{Book, callBook, bookFrom}
 
-pub after-append : (c : Clock) (xs ys : List Event) → after c (xs ++ ys) ≡ after (after c xs) ys
+pub after-append : {E : Type 0} (answers : Clock → E → Stepped) (c : Clock) (xs ys : List E) → afterBy answers c (xs ++ ys) ≡ afterBy answers (afterBy answers c xs) ys
 unfolding afterBy
-after-append c [] ys = refl
-after-append c (e ∷ xs) ys = after-append (next c e) xs ys
+after-append answers c [] ys = refl
+after-append answers c (e ∷ xs) ys = after-append answers (answers c e .clock) xs ys
 
-pub bookFrom-append : (c : Clock) (b : Book) (xs ys : List Event) → bookFrom c b (xs ++ ys) ≡ bookFrom (after c xs) (bookFrom c b xs) ys
+pub bookFrom-append : (c : Clock) (b : Book) (xs ys : List Call) → bookFrom c b (xs ++ ys) ≡ bookFrom (after c xs) (bookFrom c b xs) ys
 unfolding afterBy bookFrom
 bookFrom-append c b [] ys = refl
 bookFrom-append c b (e ∷ xs) ys = bookFrom-append (next c e) (callBook c e b) xs ys

@@ -10,10 +10,13 @@ use Rattle.clock.specs.State.{inRange}
 use Rattle.clock.specs.Reading.{readingOf, readingRefusal}
 use Rattle.clock.specs.Rollover.{rolledOver}
 use Rattle.clock.specs.Tick.{ticked, tickRefusal, tickOf}
+use Rattle.clock.specs.Ticks.{ranOf, catchUpOf}
 use Rattle.clock.specs.Setting.{settingRefusal, settingOf}
 use Rattle.request.specs.Request.{requestRefusal, requested, requestOf}
-use Rattle.event.specs.declared.event.Event.the-variants.{Tick}
+use Rattle.event.specs.declared.event.Call.the-variants.{Tick}
+use Rattle.event.specs.declared.event.Event.the-variants.{Call, CatchUp}
 use Rattle.bounds.specs.Calls.{afterBy, ticksAmong, neitherSetNorInserted}
+use Rattle.bounds.specs.Singly.{singleTicks, singlyFrom, asEvents}
 use Rattle.bounds.specs.Book.{bookFrom}
 use Rattle.bounds.specs.WrongClocks.{ShutOut}
 
@@ -24,11 +27,12 @@ not-most : {a b : ℕ} → leb a b ≡ false → a ≤ b → ⊥
 not-most {a} {b} e h = omega (arith, leb-false a b e)
 
 pub shut-out : ShutOut
-unfolding inRange readingOf readingRefusal rolledOver ticked tickRefusal tickOf settingRefusal settingOf requestRefusal requested requestOf afterBy ticksAmong neitherSetNorInserted bookFrom
+unfolding inRange readingOf readingRefusal rolledOver ticked tickRefusal tickOf ranOf catchUpOf settingRefusal settingOf requestRefusal requested requestOf afterBy ticksAmong neitherSetNorInserted singleTicks singlyFrom asEvents bookFrom
 shut-out =
     record {
       refusing = λ near. not-below refl near;
       zeros = λ near. not-below refl near;
-      idle = λ b. not-most refl (b [] (Tick ∷ []) [] refl refl);
+      idle = λ b. not-most refl (b [] (Call Tick ∷ []) [] refl refl);
       pretending = λ near. not-below refl near;
+      counting = λ b. not-most refl (b [] (CatchUp 1 false ∷ []) [] refl refl);
     }

@@ -13,9 +13,9 @@ use Rattle.clock.specs.declared.state.Clock.{Clock}
 use Rattle.clock.specs.declared.units.AskedMicros.{AskedMicros}
 use Rattle.request.specs.Request.{selectsOffset}
 use Rattle.request.specs.declared.request.Request.{Request}
-use Rattle.event.specs.declared.event.Event.{Event}
-use Rattle.event.specs.declared.event.Event.the-variants.{Tick, Setting, Reading}
-use Rattle.event.specs.declared.event.Event.the-variants as call
+use Rattle.event.specs.declared.event.Call.{Call}
+use Rattle.event.specs.declared.event.Call.the-variants.{Tick, Setting, Reading}
+use Rattle.event.specs.declared.event.Call.the-variants as call
 use Rattle.bounds.specs.Calls.{next, accepted, insertsSecond, deletesSecond}
 
 pub record Book : Type 0 where
@@ -114,17 +114,17 @@ abbrev pub requestBook : Request → Book → Book
 requestBook r b = cond (selectsOffset r) (offsetBook r b) b
 
 -- one call; "Other requests, readings, refused calls: nothing."
-abbrev pub callBook : Clock → Event → Book → Book
+abbrev pub callBook : Clock → Call → Book → Book
 callBook rules Tick b = cond (accepted rules Tick) (cond (rollsOver rules) (rolloverBook rules (tickBook b)) (tickBook b)) b
 callBook rules (Setting s u) b = cond (accepted rules (Setting s u)) (settingBook rules s u) b
 callBook rules (call.Request r) b = cond (accepted rules (call.Request r)) (requestBook r b) b
 callBook rules Reading b = b
 
 -- the book after some calls, the first of which the rules meet at the clock `rules`
-unfoldable pub bookFrom : Clock → Book → List Event → Book
+unfoldable pub bookFrom : Clock → Book → List Call → Book
 bookFrom rules b [] = b
 bookFrom rules b (e ∷ es) = bookFrom (next rules e) (callBook rules e b) es
 
 -- the book of a list of calls
-abbrev pub bookAfter : List Event → Book
+abbrev pub bookAfter : List Call → Book
 bookAfter calls = bookFrom freshClock emptyBook calls

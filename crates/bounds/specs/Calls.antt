@@ -1,4 +1,4 @@
--- A list of calls: "Each call gets the clock as the one before left it. Only accepted calls count below."
+-- Lists of calls: "Each call gets the clock as the one before left it. Only accepted calls count below."
 use Prim.Native.Nat.{ℕ, _+_}
 use mathlib.Core.Bool.{Bool, true, false, _&&_, _||_, not, cond}
 use mathlib.Core.List.{List, [], _∷_}
@@ -7,60 +7,62 @@ use Rattle.clock.specs.State.{freshClock}
 use Rattle.clock.specs.Rollover.{inserts, deletes}
 use Rattle.clock.specs.Tick.{rollsOver}
 use Rattle.clock.specs.declared.state.Clock.{Clock}
-use Rattle.event.specs.Event.{stepOf}
+use Rattle.event.specs.Event.{callOf, stepOf}
+use Rattle.event.specs.declared.event.Call.{Call}
+use Rattle.event.specs.declared.event.Call.the-variants.{Tick, Setting, Request, Reading}
 use Rattle.event.specs.declared.event.Event.{Event}
-use Rattle.event.specs.declared.event.Event.the-variants.{Tick, Setting, Request, Reading}
 use Rattle.event.specs.declared.event.Stepped.{Stepped}
 
--- What answers the calls: by the rules it is `stepOf`, which `event::step` promises to be.
+-- What answers events: by the rules it is `stepOf`, which `event::step` promises to be.
 abbrev pub Answers : Type 0
 Answers = Clock → Event → Stepped
 
--- the clock after some calls, the first of which gets c
-unfoldable pub afterBy : Answers → Clock → List Event → Clock
+-- the clock after some calls (events, or single calls), the first of which gets c
+unfoldable pub afterBy : {E : Type 0} → (Clock → E → Stepped) → Clock → List E → Clock
 afterBy answers c [] = c
 afterBy answers c (e ∷ es) = afterBy answers (answers c e .clock) es
 
--- the clock after a list of calls "on a clock that starts fresh"
+-- the clock after a list of events "on a clock that starts fresh"
 abbrev pub clockBy : Answers → List Event → Clock
-clockBy answers calls = afterBy answers freshClock calls
+clockBy answers events = afterBy answers freshClock events
 
 -- The same by the rules.
-abbrev pub next : Clock → Event → Clock
-next c e = stepOf c e .clock
-
-abbrev pub after : Clock → List Event → Clock
-after c es = afterBy stepOf c es
-
 abbrev pub clockAfter : List Event → Clock
-clockAfter calls = clockBy stepOf calls
+clockAfter events = clockBy stepOf events
+
+-- Single calls, by the rules.
+abbrev pub next : Clock → Call → Clock
+next c e = callOf c e .clock
+
+abbrev pub after : Clock → List Call → Clock
+after c es = afterBy callOf c es
 
 -- whether c accepts the call
-abbrev pub accepted : Clock → Event → Bool
-accepted c e = eqb (stepOf c e .refusal) 0
+abbrev pub accepted : Clock → Call → Bool
+accepted c e = eqb (callOf c e .refusal) 0
 
-abbrev pub isTick : Event → Bool
+abbrev pub isTick : Call → Bool
 isTick Tick = true
 isTick (Setting s u) = false
 isTick (Request r) = false
 isTick Reading = false
 
-abbrev pub isSetting : Event → Bool
+abbrev pub isSetting : Call → Bool
 isSetting Tick = false
 isSetting (Setting s u) = true
 isSetting (Request r) = false
 isSetting Reading = false
 
 -- an accepted tick
-abbrev pub ticks : Clock → Event → Bool
+abbrev pub ticks : Clock → Call → Bool
 ticks c e = isTick e && accepted c e
 
 -- an accepted setting
-abbrev pub sets : Clock → Event → Bool
+abbrev pub sets : Clock → Call → Bool
 sets c e = isSetting e && accepted c e
 
 -- an accepted tick that rolls over
-abbrev pub rolls : Clock → Event → Bool
+abbrev pub rolls : Clock → Call → Bool
 rolls c e = ticks c e && rollsOver c
 
 -- its rollover inserts a second, or deletes one: by the status before, and the second that it reaches
@@ -71,15 +73,15 @@ abbrev pub deletesSecond : Clock → Bool
 deletesSecond c = deletes (c .status) (c .seconds + 1)
 
 -- how many accepted ticks are among the calls, the first of which gets c
-unfoldable pub ticksAmong : Clock → List Event → ℕ
+unfoldable pub ticksAmong : Clock → List Call → ℕ
 ticksAmong c [] = 0
 ticksAmong c (e ∷ es) = cond (ticks c e) 1 0 + ticksAmong (next c e) es
 
 -- an accepted setting, or an accepted tick whose rollover inserts a second
-abbrev pub setsOrInserts : Clock → Event → Bool
+abbrev pub setsOrInserts : Clock → Call → Bool
 setsOrInserts c e = sets c e || (rolls c e && insertsSecond c)
 
 -- whether there is "neither a setting nor an inserted second" among the calls, the first of which gets c
-unfoldable pub neitherSetNorInserted : Clock → List Event → Bool
+unfoldable pub neitherSetNorInserted : Clock → List Call → Bool
 neitherSetNorInserted c [] = true
 neitherSetNorInserted c (e ∷ es) = not (setsOrInserts c e) && neitherSetNorInserted (next c e) es

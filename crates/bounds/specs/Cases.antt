@@ -13,9 +13,9 @@ use Rattle.clock.specs.State.{freshClock, errorsOf, whole, statusOk, statusIns,
 use Rattle.clock.specs.Tick.{carry, rollsOver}
 use Rattle.clock.specs.declared.state.Clock.{Clock}
 use Rattle.request.specs.Request.{modeBits}
-use Rattle.event.specs.Event.{stepOf}
-use Rattle.event.specs.declared.event.Event.{Event}
-use Rattle.event.specs.declared.event.Event.the-variants as call
+use Rattle.event.specs.Event.{callOf as answerOf}
+use Rattle.event.specs.declared.event.Call.{Call}
+use Rattle.event.specs.declared.event.Call.the-variants as call
 use Rattle.bounds.specs.Calls.{next}
 
 -- The fields of a clock that a row names: those that count, and those that are signed.
@@ -102,12 +102,12 @@ pub record Seen : Type 0 where
   pub refused : ℕ
   pub clock : Clock
 
-abbrev pub seen : Clock → Event → Seen
-seen c e = record { got = c; refused = stepOf c e .refusal; clock = next c e }
+abbrev pub seen : Clock → Call → Seen
+seen c e = record { got = c; refused = answerOf c e .refusal; clock = next c e }
 
 -- What a row does: a call; a number of ticks; ticks up to and with the next that rolls over.
 pub data Doing : Type 0 where
-  callOf : Event → Doing
+  callOf : Call → Doing
   tickTimes : ℕ → Doing
   rollover : Doing
 
@@ -202,7 +202,7 @@ abbrev pub row : List Start → List Stage → Case
 row f gs = record { from = f; stages = gs }
 
 -- a request that selects an offset (us), and nothing else
-abbrev pub asks : ℤ → Event
+abbrev pub asks : ℤ → Call
 asks o =
     call.Request
     (record {
@@ -215,7 +215,7 @@ asks o =
       constant = 0;
     })
 
-abbrev pub set : ℕ → ℕ → Event
+abbrev pub set : ℕ → ℕ → Call
 set s u = call.Setting s (record { 0 = u })
 
 -- The table of document 01, row by row ("frequency unchanged" at two frequencies), and after it the two edges.

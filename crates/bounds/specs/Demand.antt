@@ -1,27 +1,34 @@
--- Demand 3, the whole of it, as one statement about a list of calls.
+-- Demand 3, the whole of it, as one statement about a list of events.
 use Prim.Native.Nat.{ℕ, _+_, _*_, _≤_, _<_}
 use mathlib.Core.Path.{_≡_}
-use mathlib.Core.Bool.{true}
+use mathlib.Core.Bool.{Bool, true}
 use mathlib.Core.List.{List, [], _∷_, _++_}
 use lib.IntN.{ℤ, pos, natAbs, _-ℤ_, _*ℤ_}
 use Rattle.clock.specs.Units.{microsPerSecond}
+use Rattle.clock.specs.Ticks.{catchUpOf}
 use Rattle.clock.specs.declared.state.Clock.{Clock}
 use Rattle.clock.specs.declared.reading.Reading as shows
 use Rattle.event.specs.Event.{stepOf}
+use Rattle.event.specs.declared.event.Call.the-variants.{Tick, Reading}
 use Rattle.event.specs.declared.event.Event.{Event}
-use Rattle.event.specs.declared.event.Event.the-variants.{Tick, Reading}
+use Rattle.event.specs.declared.event.Event.the-variants.{Call, CatchUp}
 use Rattle.bounds.specs.Calls.{Answers, clockBy, clockAfter, rolls, ticksAmong, neitherSetNorInserted}
+use Rattle.bounds.specs.Singly.{singleTicks, singlyFrom, singly, asEvents}
 use Rattle.bounds.specs.Book.{Book, bookAfter, exactPerMicro}
 
 -- "A reading tells seconds x 1,000,000 + microseconds." (us)
 abbrev pub tells : shows.Reading → ℕ
 tells r = r .seconds * microsPerSecond + r .micros .0
 
--- Each bound is stated of whatever answers the calls; what the calls should have come to is the book's, by the rules alone.
+-- Each bound is stated of whatever answers the events; what they should have come to is the book's, by the rules alone.
 
 -- "what a reading call answers on the clock after the list" (us)
 abbrev pub toldAfter : Answers → List Event → ℕ
-toldAfter answers calls = tells (answers (clockBy answers calls) Reading .reading)
+toldAfter answers events = tells (answers (clockBy answers events) (Call Reading) .reading)
+
+-- the book of a list of events: it "counts these ticks as if made singly"
+abbrev pub bookOf : List Event → Book
+bookOf events = bookAfter (singly events)
 
 -- "the reading is off the exact time by less than 1 us plus n/2^28 us", in 2^-32 us: |2^32 T - exact| < 2^32 + 16 n
 abbrev pub NearExact : ℕ → Book → Type 0
@@ -29,9 +36,9 @@ NearExact t b = natAbs (pos (exactPerMicro * t) -ℤ b .exact) < exactPerMicro +
 
 -- "After every such list, with n ticks since the last setting, the reading is off the exact time by less than [..]": the reading of the
 -- clock after the list is accepted, and what it tells is near.
-pub record FirstBound (answers : Answers) (calls : List Event) : Type 0 where
-  pub accepted : answers (clockBy answers calls) Reading .refusal ≡ 0
-  pub near : NearExact (toldAfter answers calls) (bookAfter calls)
+pub record FirstBound (answers : Answers) (events : List Event) : Type 0 where
+  pub accepted : answers (clockBy answers events) (Call Reading) .refusal ≡ 0
+  pub near : NearExact (toldAfter answers events) (bookOf events)
 
 -- "what has been taken off: asked less the offset left in the clock that this tick got" (offset units)
 abbrev pub takenOff : Clock → Book → ℤ
@@ -41,13 +48,20 @@ takenOff got b = b .asked -ℤ got .offset .0
 abbrev pub MovedAsTaken : ℤ → ℤ → Type 0
 MovedAsTaken m t = natAbs (m -ℤ pos 256 *ℤ t) ≤ natAbs t
 
+-- What holds at a tick with these events before it, where it is accepted and rolls over, with what is moved then, this tick included.
+-- Before the first offset request, and after a setting, both are 0, so that it holds there too.
+abbrev pub AtRollover : Answers → List Event → Type 0
+AtRollover answers before =
+    rolls (clockAfter before) Tick ≡ true
+    → MovedAsTaken (bookOf (before ++ (Call Tick ∷ [])) .moved) (takenOff (clockBy answers before) (bookOf before))
+
 -- "At every rollover, before the new share is taken, what the last offset request has moved the clock differs [..]": at each tick of the
--- list that is accepted and rolls over, with what is moved then, this tick included. Before the first offset request, and after a
--- setting, both are 0, so that it holds there too.
-abbrev pub SecondBound : Answers → List Event → Type 0
-SecondBound answers calls =
-    (before later : List Event) → calls ≡ before ++ (Tick ∷ later) → rolls (clockAfter before) Tick ≡ true
-    → MovedAsTaken (bookAfter (before ++ (Tick ∷ [])) .moved) (takenOff (clockBy answers before) (bookAfter before))
+-- list, made in a call of its own or among those that a catch-up accepts. No call shows a clock inside a catch-up: there the j ticks before
+-- this one are made singly.
+pub record SecondBound (answers : Answers) (events : List Event) : Type 0 where
+  pub single : (before later : List Event) → events ≡ before ++ (Call Tick ∷ later) → AtRollover answers before
+  pub within : (before later : List Event) (ceiling : ℕ) (stop : Bool) → events ≡ before ++ (CatchUp ceiling stop ∷ later)
+      → (j : ℕ) → j < catchUpOf (clockAfter before) ceiling stop .count → AtRollover answers (before ++ asEvents (singleTicks j))
 
 -- the least that a tick moves the clock forward (us)
 abbrev pub leastTick : ℕ
@@ -56,19 +70,19 @@ leastTick = 3905
 -- "Whichever two readings are taken, with n ticks and neither a setting nor an inserted second between them, the clock has gone
 -- forward by at least 3,905 n us."
 abbrev pub ThirdBound : Answers → List Event → Type 0
-ThirdBound answers calls =
-    (before between later : List Event) → calls ≡ before ++ (Reading ∷ (between ++ (Reading ∷ later)))
-    → neitherSetNorInserted (clockAfter (before ++ (Reading ∷ []))) between ≡ true
-    → toldAfter answers before + leastTick * ticksAmong (clockAfter (before ++ (Reading ∷ []))) between
-    ≤ toldAfter answers (before ++ (Reading ∷ between))
+ThirdBound answers events =
+    (before between later : List Event) → events ≡ before ++ (Call Reading ∷ (between ++ (Call Reading ∷ later)))
+    → let c = clockAfter (before ++ (Call Reading ∷ [])) in
+    neitherSetNorInserted c (singlyFrom c between) ≡ true
+    → toldAfter answers before + leastTick * ticksAmong c (singlyFrom c between) ≤ toldAfter answers (before ++ (Call Reading ∷ between))
 
--- Demand 3 of what answers a list of calls.
-pub record Demand3 (answers : Answers) (calls : List Event) : Type 0 where
-  pub first : FirstBound answers calls
-  pub second : SecondBound answers calls
-  pub third : ThirdBound answers calls
+-- Demand 3 of what answers a list of events.
+pub record Demand3 (answers : Answers) (events : List Event) : Type 0 where
+  pub first : FirstBound answers events
+  pub second : SecondBound answers events
+  pub third : ThirdBound answers events
 
--- "Take any list of ticks, settings, requests and readings, refused ones included, on a clock that starts fresh." What answers is
--- `event::step`, by its promise `r ≡ stepOf c e`.
+-- "Take any list of ticks, settings, requests and readings, refused ones included, on a clock that starts fresh", and of catch-ups. What
+-- answers is `event::step`, by its promise `r ≡ stepOf c e`.
 abbrev pub Demand3OfEveryList : Type 0
-Demand3OfEveryList = (calls : List Event) → Demand3 stepOf calls
+Demand3OfEveryList = (events : List Event) → Demand3 stepOf events

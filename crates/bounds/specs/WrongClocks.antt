@@ -1,7 +1,7 @@
 -- Clocks that document 01 shuts out by name: "a clock that refuses everything, and a reading that is always zero [..]; a tick that does
 -- nothing [..]; a rollover that pays the first share and later only pretends". For each, a list of calls at which demand 3 would fail.
-use Prim.Native.Nat.{ℕ, zero, suc, _%_}
-use mathlib.Core.Bool.{Bool, not, _&&_, cond}
+use Prim.Native.Nat.{_%_}
+use mathlib.Core.Bool.{Bool, false, not, _&&_, cond}
 use mathlib.Core.List.{List, [], _∷_}
 use lib.Dec.{eqb}
 use lib.IntN.{pos, natAbs}
@@ -11,27 +11,46 @@ use Rattle.clock.specs.Reading.{noReading}
 use Rattle.clock.specs.Tick.{rollsOver}
 use Rattle.clock.specs.declared.state.Clock.{Clock}
 use Rattle.event.specs.Event.{stepOf}
+use Rattle.event.specs.declared.event.Call.the-variants.{Tick, Setting, Request, Reading}
 use Rattle.event.specs.declared.event.Event.{Event}
-use Rattle.event.specs.declared.event.Event.the-variants.{Tick, Setting, Request, Reading}
+use Rattle.event.specs.declared.event.Event.the-variants.{Call, CatchUp}
+use Rattle.event.specs.declared.event.Stepped.{Stepped}
 use Rattle.bounds.specs.Calls.{Answers}
-use Rattle.bounds.specs.Book.{bookAfter}
+use Rattle.bounds.specs.Singly.{singleTicks, asEvents}
 use Rattle.bounds.specs.Cases.{asks, set}
-use Rattle.bounds.specs.Demand.{toldAfter, NearExact, ThirdBound}
+use Rattle.bounds.specs.Demand.{toldAfter, bookOf, NearExact, ThirdBound}
+
+-- an answer, but for its clock
+abbrev pub leaving : Clock → Stepped → Stepped
+leaving c a = record { refusal = a .refusal; count = a .count; «tick_refusal» = a .«tick_refusal»; clock = c; reading = a .reading }
 
 -- every call is refused, with 1
 abbrev pub refusesEverything : Answers
-refusesEverything c e = record { refusal = 1; clock = c; reading = noReading }
+refusesEverything c e = record { refusal = 1; count = 0; «tick_refusal» = 0; clock = c; reading = noReading }
 
 -- the reading is always zero, and accepted
 abbrev pub readsZero : Answers
-readsZero c e = record { refusal = stepOf c e .refusal; clock = stepOf c e .clock; reading = noReading }
+readsZero c e =
+    record {
+      refusal = stepOf c e .refusal;
+      count = stepOf c e .count;
+      «tick_refusal» = stepOf c e .«tick_refusal»;
+      clock = stepOf c e .clock;
+      reading = noReading;
+    }
 
 -- an accepted tick does nothing
 abbrev pub idles : Answers
-idles c Tick = record { refusal = stepOf c Tick .refusal; clock = c; reading = noReading }
-idles c (Setting s u) = stepOf c (Setting s u)
-idles c (Request r) = stepOf c (Request r)
-idles c Reading = stepOf c Reading
+idles c (Call Tick) = leaving c (stepOf c (Call Tick))
+idles c (Call (Setting s u)) = stepOf c (Call (Setting s u))
+idles c (Call (Request r)) = stepOf c (Call (Request r))
+idles c (Call Reading) = stepOf c (Call Reading)
+idles c (CatchUp ceiling stop) = stepOf c (CatchUp ceiling stop)
+
+-- the ticks of a catch-up are counted, and not made
+abbrev pub countsOnly : Answers
+countsOnly c (Call e) = stepOf c (Call e)
+countsOnly c (CatchUp ceiling stop) = leaving c (stepOf c (CatchUp ceiling stop))
 
 -- Something has been taken off the offset that was asked for: what is left is no longer whole microseconds. (Of the offset asked for below
 -- that is so from the first share on.)
@@ -53,30 +72,24 @@ unpaid c =
 
 -- the first share is paid; each later one is taken off the offset, and not paid
 abbrev pub pretends : Answers
-pretends c Tick =
-    record {
-      refusal = stepOf c Tick .refusal;
-      clock = cond (rollsOver c && begun c) (unpaid (stepOf c Tick .clock)) (stepOf c Tick .clock);
-      reading = noReading;
-    }
-pretends c (Setting s u) = stepOf c (Setting s u)
-pretends c (Request r) = stepOf c (Request r)
-pretends c Reading = stepOf c Reading
-
--- n ticks
-abbrev pub ticksOnly : ℕ → List Event
-ticksOnly zero = []
-ticksOnly (suc n) = Tick ∷ ticksOnly n
+pretends c (Call Tick) =
+    let a = stepOf c (Call Tick) in
+    leaving (cond (rollsOver c && begun c) (unpaid (a .clock)) (a .clock)) a
+pretends c (Call (Setting s u)) = stepOf c (Call (Setting s u))
+pretends c (Call (Request r)) = stepOf c (Call (Request r))
+pretends c (Call Reading) = stepOf c (Call Reading)
+pretends c (CatchUp ceiling stop) = stepOf c (CatchUp ceiling stop)
 
 -- the greatest offset, asked just before a rollover that pays its first share, and ticks past the rollover that only pretends
 abbrev pub pretence : List Event
-pretence = set 0 999999 ∷ asks (pos 127999) ∷ ticksOnly 262
+pretence = Call (set 0 999999) ∷ Call (asks (pos 127999)) ∷ asEvents (singleTicks 262)
 
 -- None of them meets demand 3: a clock that refuses everything and a reading that is always zero are not near the exact time after a tick, "a tick
 -- that does nothing (.. 3's forward bound)", "a rollover that pays the first share and later only pretends (.. 3's first bound, whose
--- exact time counts every share)".
+-- exact time counts every share)". Nor does one whose catch-up only counts, by the forward bound again.
 pub record ShutOut : Type 0 where
-  pub refusing : NearExact (toldAfter refusesEverything (Tick ∷ [])) (bookAfter (Tick ∷ [])) → ⊥
-  pub zeros : NearExact (toldAfter readsZero (Tick ∷ [])) (bookAfter (Tick ∷ [])) → ⊥
-  pub idle : ThirdBound idles (Reading ∷ Tick ∷ Reading ∷ []) → ⊥
-  pub pretending : NearExact (toldAfter pretends pretence) (bookAfter pretence) → ⊥
+  pub refusing : NearExact (toldAfter refusesEverything (Call Tick ∷ [])) (bookOf (Call Tick ∷ [])) → ⊥
+  pub zeros : NearExact (toldAfter readsZero (Call Tick ∷ [])) (bookOf (Call Tick ∷ [])) → ⊥
+  pub idle : ThirdBound idles (Call Reading ∷ Call Tick ∷ Call Reading ∷ []) → ⊥
+  pub pretending : NearExact (toldAfter pretends pretence) (bookOf pretence) → ⊥
+  pub counting : ThirdBound countsOnly (Call Reading ∷ CatchUp 1 false ∷ Call Reading ∷ []) → ⊥

@@ -1,10 +1,8 @@
 -- A jump goes on by single ticks: what a tick makes of the clock after a jump of j ticks, a jump of j + 1 makes of the clock as it was.
-use mathlib.Core.Path.{_≡_, sym, _∙_, ap}
-use mathlib.Core.Bool.{true, false}
+use mathlib.Core.Path.{_≡_, sym, ap}
 use Prim.Native.Nat.{ℕ, suc, _+_, _-_, _*_, _≤_, _<_}
 use native.Mathlib.Nat.{mul-le-mul-left}
 use native.Mathlib.Omega.{arith}
-use borrow.Author.Tests.{lt-leb}
 use lib.Dec.{T}
 use lib.IntN.{ℤ, pos, _+ℤ_, _*ℤ_, sucℤ-*ℤ, +ℤ-assoc}
 use lib.Signed.{nonNeg}
@@ -13,12 +11,12 @@ use mir.Val.{Fits, SFits, toZ, ofZ}
 use mir.Facts.{toZ-pos, toZ-ofZ}
 use Rattle.integers.proofs.Parts.{posPart, negPart, parts, one-part, eq-parts, sfits-parts, abs-parts, nonNeg-parts, posPart-add, negPart-add, posPart-quot, negPart-quot, times-posPart, times-negPart}
 use Rattle.integers.proofs.Carrying.{Way, carry-step, rest-step, steps-way}
-use Rattle.clock.specs.Units.{micros, phaseUnits}
-use Rattle.clock.specs.Tick.{carry, phaseLeft, microsGrown, moved, advanced, rollsOver, tickOf, tickRefusal, ticked}
+use Rattle.clock.specs.Units.{micros}
+use Rattle.clock.specs.Tick.{carry, phaseLeft, microsGrown, moved}
 use Rattle.clock.specs.Inner.{Within, advanceOf, phaseSums, carries, phaseLater, microsLater, jumpOf}
 use Rattle.clock.specs.declared.state.Clock.{Clock}
 use Rattle.clock.specs.declared.timer.Advance.{Advance}
-use Rattle.clock.proofs.Ok.{Ok, ok-back}
+use Rattle.clock.proofs.Ok.{Ok}
 use Rattle.clock.proofs.TickLaws.{fits-phase, fits-adjustment, grown-eq}
 
 -- the clock j ticks later, where none of them reaches the end of the second

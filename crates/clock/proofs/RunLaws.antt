@@ -6,7 +6,7 @@ use native.Mathlib.Omega.{arith}
 use lib.Dec.{eqb}
 use borrow.Author.Tests.{lt-leb, ne-eqb, eqb-true}
 use Rattle.clock.specs.State.{inRange}
-use Rattle.clock.specs.Tick.{moved, advanced, microsGrown, rollsOver, tickOf, tickRefusal, ticked}
+use Rattle.clock.specs.Tick.{moved, microsGrown, rollsOver, tickOf, tickRefusal, ticked}
 use Rattle.clock.specs.Ticks.{ended, oneMore, ranOf, ticksOf}
 use Rattle.clock.specs.Inner.{Within, advanceOf, jumpOf, adds, endsWith, TurnOf}
 use Rattle.clock.specs.declared.state.Clock.{Clock}

@@ -1,26 +1,39 @@
 -- One event on a clock: the rule that applies to it, and its answer.
 use Rattle.clock.specs.Tick.{tickOf}
+use Rattle.clock.specs.Ticks.{catchUpOf}
 use Rattle.clock.specs.Setting.{settingOf}
 use Rattle.clock.specs.Reading.{readingOf, noReading}
 use Rattle.clock.specs.declared.state.Clock.{Clock}
 use Rattle.clock.specs.declared.outcome.Outcome.{Outcome}
+use Rattle.clock.specs.declared.run.CaughtUp.{CaughtUp}
 use Rattle.clock.specs.declared.reading.Told.{Told}
 use Rattle.request.specs.Request.{requestOf}
+use Rattle.event.specs.declared.event.Call.{Call}
+use Rattle.event.specs.declared.event.Call.the-variants.{Tick, Setting, Request, Reading}
 use Rattle.event.specs.declared.event.Event.{Event}
-use Rattle.event.specs.declared.event.Event.the-variants.{Tick, Setting, Request, Reading}
+use Rattle.event.specs.declared.event.Event.the-variants as event
 use Rattle.event.specs.declared.event.Stepped.{Stepped}
 
 -- the answer of a tick, a setting or a request: no reading
 abbrev pub stepWith : Outcome → Stepped
-stepWith o = record { refusal = o .refusal; clock = o .clock; reading = noReading }
+stepWith o = record { refusal = o .refusal; count = 0; «tick_refusal» = 0; clock = o .clock; reading = noReading }
 
 -- the answer of a reading: "the state is not changed"
 abbrev pub stepTold : Clock → Told → Stepped
-stepTold c t = record { refusal = t .refusal; clock = c; reading = t .reading }
+stepTold c t = record { refusal = t .refusal; count = 0; «tick_refusal» = 0; clock = c; reading = t .reading }
 
--- The step of a list of calls.
+-- the answer of many ticks in one call: no reading
+abbrev pub stepMany : CaughtUp → Stepped
+stepMany m = record { refusal = m .refusal; count = m .count; «tick_refusal» = m .«tick_refusal»; clock = m .clock; reading = noReading }
+
+-- a single call
+abbrev pub callOf : Clock → Call → Stepped
+callOf c Tick = stepWith (tickOf c)
+callOf c (Setting s u) = stepWith (settingOf c s u)
+callOf c (Request r) = stepWith (requestOf c r)
+callOf c Reading = stepTold c (readingOf c)
+
+-- The step of a list of events.
 abbrev pub stepOf : Clock → Event → Stepped
-stepOf c Tick = stepWith (tickOf c)
-stepOf c (Setting s u) = stepWith (settingOf c s u)
-stepOf c (Request r) = stepWith (requestOf c r)
-stepOf c Reading = stepTold c (readingOf c)
+stepOf c (event.Call k) = callOf c k
+stepOf c (event.CatchUp ceiling stop) = stepMany (catchUpOf c ceiling stop)

@@ -6,7 +6,7 @@ use Prim.Native.Nat.{ℕ, suc, _%_}
 use lib.Dec.{eqb}
 use lib.IntN.{ℤ}
 use Rattle.clock.specs.declared.units.AskedMicros.{AskedMicros}
-use Rattle.event.specs.declared.event.Event.the-variants.{Setting, Request, Reading}
+use Rattle.event.specs.declared.event.Call.the-variants.{Setting, Request, Reading}
 use Rattle.number.specs.Mapping.{unmapped}
 use Rattle.number.specs.Reading.{Found as Number, number, numberAt}
 use Rattle.number.specs.Sequence.{then}

@@ -23,7 +23,7 @@ pub enum Event {
     // so many single ticks, up to the first refusal
     Ticks(u64),
     // a setting, a request whose fields that the mode does not select are 0, or a reading, which is a print
-    Call(event::Event),
+    Call(event::Call),
 }
 
 // What stands at a place: an event, with the place after it; or the refusal, 10, 11 or 12.
@@ -45,7 +45,7 @@ fn refusal_of(d: Decoded) -> Entry
     }
 }
 
-fn called(call: event::Event, next: usize) -> Entry
+fn called(call: event::Call, next: usize) -> Entry
     ensures { λ r. ⌜ told r ≡ found (Call call) next ⌝ }
 {
     Entry::Whole {
@@ -81,7 +81,7 @@ fn setting_at(bytes: &[u8], at: usize) -> Entry
         return refusal_of(d1);
     };
     let micros = AskedMicros(value);
-    called(event::Event::Setting(seconds, micros), next)
+    called(event::Call::Setting(seconds, micros), next)
 }
 
 // A mode above 63 brings the fields of mode mod 64, before the request is refused for it.
@@ -161,7 +161,7 @@ fn request_at(bytes: &[u8], at: usize) -> Entry
         status: status,
         constant: constant,
     };
-    called(event::Event::Request(request), next)
+    called(event::Call::Request(request), next)
 }
 
 // The event that starts at `at`.
@@ -176,7 +176,7 @@ pub fn read(bytes: &[u8], at: usize) -> Entry
         0 => ticks_at(bytes, next),
         1 => setting_at(bytes, next),
         2 => request_at(bytes, next),
-        3 => called(event::Event::Reading, next),
+        3 => called(event::Call::Reading, next),
         _ => Entry::Refused(UNKNOWN),
     }
 }

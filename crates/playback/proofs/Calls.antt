@@ -9,48 +9,62 @@ use lib.ListN.{length}
 use borrow.Author.Tests.{le-leb, lt-leb, le-ltb, leb-true, leb-false, ltb-true, ltb-false}
 use Rattle.clock.specs.Tick.{tickOf}
 use Rattle.clock.specs.Reading.{readingOf, shown}
-use Rattle.clock.specs.State.{freshClock}
+use Rattle.clock.specs.State.{inRange, freshClock}
 use Rattle.clock.specs.declared.state.Clock.{Clock}
 use Rattle.event.specs.Event.{stepOf}
+use Rattle.event.specs.declared.event.Call.the-variants.{Reading}
 use Rattle.event.specs.declared.event.Event as call
-use Rattle.event.specs.declared.event.Event.the-variants.{Reading}
-use Rattle.bounds.specs.Calls.{afterBy, after, clockAfter}
+use Rattle.event.specs.declared.event.Event.the-variants.{Call as single}
+use Rattle.bounds.specs.Calls.{afterBy, clockAfter}
+use Rattle.bounds.specs.Singly.{singleTicks, asEvents}
 use Rattle.bounds.proofs.Runs.{after-append}
 use Rattle.bounds.proofs.Theorem.{demand3}
 use Rattle.history.specs.declared.Event.{Event}
 use Rattle.history.specs.declared.Event.the-variants.{Ticks, Call}
 use Rattle.history.specs.Event.{Found, found, refused, eventAt}
 use Rattle.history.proofs.Extent.{Past, event-past}
-use Rattle.clock.specs.Ticks.{ticksOf}
+use Rattle.clock.specs.Ticks.{ranOf, ticksOf}
+use Rattle.clock.proofs.RunLaws.{ticks-one-more}
 use Rattle.playback.specs.Lines.{printLine}
 use Rattle.playback.specs.Event.{outcomeOf, lineOf}
 use Rattle.playback.specs.Run.{Advanced, longestHistory, startOfRun, endOf, step, runAfter, stepsToEnd, replayOf}
-use Rattle.playback.specs.Calls.{singleTicks, callsOfEvent, callsFrom, callsOfFirst, callsOf, PrintAt, Tells, Demand3OfEveryHistory}
+use Rattle.playback.specs.Calls.{callsOfEvent, callsFrom, callsOfFirst, callsOf, PrintAt, Tells, Demand3OfEveryHistory}
 use Rattle.playback.specs.declared.run.Run.{Run}
 use Rattle.playback.proofs.LineLaws.{reading-sound, line-print}
 use Rattle.playback.proofs.RunLaws.{step-long, step-end, step-found, run-ended, start-ends}
 
 -- ---- the clock after the calls of an event
 
+abbrev after : Clock → List call.Event → Clock
+after c es = afterBy stepOf c es
+
+abbrev ticks : ℕ → List call.Event
+ticks n = asEvents (singleTicks n)
+
 -- a tick that is refused hands back the clock, and so do those after it
 refused-stays : (c : Clock) → eqb (tickOf c .refusal) 0 ≡ false → tickOf c .clock ≡ c
 unfolding tickOf
 refused-stays c t = simp t
 
-refused-ticks : (n : ℕ) (c : Clock) → eqb (tickOf c .refusal) 0 ≡ false → after c (singleTicks n) ≡ c
-unfolding afterBy singleTicks
+refused-ticks : (n : ℕ) (c : Clock) → eqb (tickOf c .refusal) 0 ≡ false → after c (ticks n) ≡ c
+unfolding afterBy singleTicks asEvents
 refused-ticks zero c t = refl
-refused-ticks (suc n) c t = ap (λ (d : Clock). after d (singleTicks n)) (refused-stays c t) ∙ refused-ticks n c t
+refused-ticks (suc n) c t = ap (λ (d : Clock). after d (ticks n)) (refused-stays c t) ∙ refused-ticks n c t
 
-by-tick : (n : ℕ) (c : Clock) → after (tickOf c .clock) (singleTicks n) ≡ ticksOf n (tickOf c .clock) .clock → (b : Bool) → eqb (tickOf c .refusal) 0 ≡ b
-    → after c (singleTicks (suc n)) ≡ ticksOf (suc n) c .clock
-unfolding afterBy singleTicks ticksOf
-by-tick n c h true t = simp t h
-by-tick n c h false t = simp t (refused-ticks (suc n) c t ∙ sym (refused-stays c t))
+by-tick : (n : ℕ) (c : Clock) → after (tickOf c .clock) (ticks n) ≡ ticksOf n (tickOf c .clock) .clock → (b : Bool) → eqb (tickOf c .refusal) 0 ≡ b
+    → after c (ticks (suc n)) ≡ ticksOf (suc n) c .clock
+unfolding afterBy singleTicks asEvents
+by-tick n c h true t = rw (ticks-one-more c n) (simp t h)
+by-tick n c h false t = rw (ticks-one-more c n) (simp t (refused-ticks (suc n) c t ∙ sym (refused-stays c t)))
 
-ticks-after : (n : ℕ) (c : Clock) → after c (singleTicks n) ≡ ticksOf n c .clock
-unfolding afterBy singleTicks ticksOf
-ticks-after zero c = refl
+no-tick : (c : Clock) (b : Bool) → inRange c ≡ b → c ≡ ticksOf 0 c .clock
+unfolding ticksOf ranOf
+no-tick c true t = simp t
+no-tick c false t = simp t
+
+ticks-after : (n : ℕ) (c : Clock) → after c (ticks n) ≡ ticksOf n c .clock
+unfolding afterBy singleTicks asEvents
+ticks-after zero c = no-tick c (inRange c) refl
 ticks-after (suc n) c = by-tick n c (ticks-after n (tickOf c .clock)) (eqb (tickOf c .refusal) 0) refl
 
 event-after : (c : Clock) (e : Event) → after c (callsOfEvent e) ≡ outcomeOf c e .clock
@@ -109,7 +123,7 @@ module _ (s : List ℕ) (fits : length s ≤ longestHistory) where
       ap (λ (r : Run). runAfter k s r .clock) e
       ∙ f (outcomeOf c v .clock) next
       ∙ ap (λ (d : Clock). after d (callsFrom k s next)) (sym (event-after c v))
-      ∙ sym (after-append c (callsOfEvent v) (callsFrom k s next))
+      ∙ sym (after-append stepOf c (callsOfEvent v) (callsFrom k s next))
       ∙ ap (after c) (sym (some k))
 
   clock-from : (k : ℕ) → ClockFrom k
@@ -145,11 +159,11 @@ module _ (s : List ℕ) (fits : length s ≤ longestHistory) where
   calls-on m (suc k) c at = calls-more m k (calls-on m k) c at (next-of c at)
 
 -- an accepted reading tells what the clock shows, and that is printed
-reading-shown : (c : Clock) → stepOf c Reading .refusal ≡ 0 → stepOf c Reading .reading ≡ shown c
+reading-shown : (c : Clock) → stepOf c (single Reading) .refusal ≡ 0 → stepOf c (single Reading) .reading ≡ shown c
 unfolding readingOf
 reading-shown c z = simp (reading-sound c Reading refl z)
 
-print-shown : (c : Clock) → stepOf c Reading .refusal ≡ 0 → lineOf c (Call Reading) ≡ printLine c
+print-shown : (c : Clock) → stepOf c (single Reading) .refusal ≡ 0 → lineOf c (Call Reading) ≡ printLine c
 print-shown c z = sym (line-print c Reading refl z)
 
 module _ (s : List ℕ) where
@@ -187,7 +201,7 @@ module _ (s : List ℕ) where
     unfolding more
     counted = omega (arith, before-end (leb (stepsToEnd s) k) refl)
 
-    among : callsOf s ≡ callsOfFirst k s ++ (Reading ∷ callsFrom more s (p .next))
+    among : callsOf s ≡ callsOfFirst k s ++ (single Reading ∷ callsFrom more s (p .next))
     unfolding callsOfFirst CallsOn
     among =
         simp (le-ltb longestHistory (length s) (p .fits))
@@ -195,7 +209,7 @@ module _ (s : List ℕ) where
         ∙ calls-on s (p .fits) (suc more) k freshClock 0
         ∙ ap (λ (es : List call.Event). callsFrom k s 0 ++ es) (some-found s (p .fits) (now .place) (Call Reading) (p .next) (omega (arith, inside)) (p .print) more))
 
-    accepted : stepOf (clockAfter (callsOfFirst k s)) Reading .refusal ≡ 0
+    accepted : stepOf (clockAfter (callsOfFirst k s)) (single Reading) .refusal ≡ 0
     accepted = demand3 (callsOfFirst k s) .first .accepted
 
     tells : Tells s k

@@ -12,7 +12,7 @@ use Rattle.number.specs.Reading.{leadingMore, valueOf, judged, numberAt}
 use Rattle.number.specs.Sequence.{then}
 use Rattle.number.specs.Mapping.{unmapped}
 use Rattle.label.specs.Label.{labelOf}
-use Rattle.clock.specs.Ticks.{ticksOf}
+use Rattle.clock.specs.Ticks.{ranOf, ticksOf}
 use Rattle.history.specs.Event.{fieldAt, ticksAt, requestAt, argumentsAt, eventAt}
 use Rattle.playback.specs.Lines.{decimalFrom, decimal, refusedLine, logLine, printLine}
 use Rattle.playback.specs.Event.{outcomeOf, printedBy, printed, lineOf}
@@ -25,7 +25,7 @@ prints s = replayOf s .output
 documented : prints (0x00 ∷ 0x80 ∷ 0x02 ∷ 0x03 ∷ [])
     ≡ 0x31 ∷ 0x39 ∷ 0x37 ∷ 0x30 ∷ 0x2D ∷ 0x30 ∷ 0x31 ∷ 0x2D ∷ 0x30 ∷ 0x31 ∷ 0x54 ∷ 0x30 ∷ 0x30 ∷ 0x3A ∷ 0x30 ∷ 0x30 ∷ 0x3A ∷ 0x30 ∷ 0x31 ∷ 90
     ∷ 0x20 ∷ 0x30 ∷ 0x30 ∷ 0x30 ∷ 0x30 ∷ 0x30 ∷ 0x30 ∷ 0x20 ∷ 0x34 ∷ 0x0A ∷ []
-unfolding dateOf inRange rolledOver ticked tickRefusal tickOf readingRefusal readingOf leadingMore valueOf judged numberAt labelOf ticksOf then ticksAt argumentsAt eventAt decimalFrom decimal printLine outcomeOf printedBy printed lineOf step runAfter linesOf replayOf
+unfolding dateOf inRange rolledOver ticked tickRefusal tickOf readingRefusal readingOf leadingMore valueOf judged numberAt labelOf ranOf ticksOf then ticksAt argumentsAt eventAt decimalFrom decimal printLine outcomeOf printedBy printed lineOf step runAfter linesOf replayOf
 documented = refl
 
 nothing-printed : prints [] ≡ []

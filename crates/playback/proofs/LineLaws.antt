@@ -12,13 +12,12 @@ use Rattle.clock.specs.Reading.{readingOf, readingRefusal}
 use Rattle.clock.specs.Refusal.{refuse}
 use Rattle.clock.specs.declared.state.Clock.{Clock}
 use Rattle.clock.proofs.Ok.{ok}
-use Rattle.event.specs.Event.{stepOf}
+use Rattle.event.specs.Event.{callOf}
 use Rattle.label.specs.Label.{digit, isSixty, clockLabel}
 use Rattle.label.specs.Writing.{writeRefusal, writtenTo}
 use Rattle.label.proofs.Room.{twenty}
-use Rattle.event.specs.declared.event.Event as call
-use Rattle.event.specs.declared.event.Event.the-variants.{Tick, Setting, Request, Reading}
-use Rattle.history.specs.declared.Event.{Event}
+use Rattle.event.specs.declared.event.Call as call
+use Rattle.event.specs.declared.event.Call.the-variants.{Tick, Setting, Request, Reading}
 use Rattle.history.specs.declared.Event.the-variants.{Ticks, Call}
 use Rattle.clock.specs.Ticks.{ticksOf}
 use Rattle.playback.specs.Lines.{space, newline, refusedLine, logLine, printLine}
@@ -75,7 +74,7 @@ accepted : (b : Bool) → refuse (not b) 1 0 ≡ 0 → b ≡ true
 accepted true e = refl
 accepted false e = absurd (omega (arith, e))
 
-pub reading-sound : (c : Clock) (e : call.Event) → isReading e ≡ true → stepOf c e .refusal ≡ 0 → inRange c ≡ true
+pub reading-sound : (c : Clock) (e : call.Call) → isReading e ≡ true → callOf c e .refusal ≡ 0 → inRange c ≡ true
 unfolding readingOf readingRefusal
 reading-sound c Tick t z = absurd (let w : _≡_ {A = ℕ} 0 1 = cc in omega arith)
 reading-sound c (Setting s u) t z = absurd (let w : _≡_ {A = ℕ} 0 1 = cc in omega arith)
@@ -83,7 +82,7 @@ reading-sound c (Request r) t z = absurd (let w : _≡_ {A = ℕ} 0 1 = cc in om
 reading-sound c Reading t z = accepted (inRange c) z
 
 -- what an accepted call prints
-by-call : (c : Clock) (e : call.Event) → printedBy c e ≡ cond (isReading e) (printLine c) []
+by-call : (c : Clock) (e : call.Call) → printedBy c e ≡ cond (isReading e) (printLine c) []
 unfolding printedBy
 by-call c Tick = refl
 by-call c (Setting s u) = refl
@@ -96,17 +95,17 @@ unfolding refusalLine lineOf outcomeOf printed
 line-ticks c n = refl
 
 -- the line of a call that is an accepted reading, and of any other
-module _ (c : Clock) (e : call.Event) where
+module _ (c : Clock) (e : call.Call) where
   by-reading : (b z : Bool) (line : List ℕ) → printedBy c e ≡ cond b (printLine c) [] → (b && z) ≡ false → cond z [] line ≡ cond z (printedBy c e) line
   by-reading true true line p t = absurd (let w : _≡_ {A = ℕ} 0 1 = cc in omega arith)
   by-reading true false line p t = refl
   by-reading false true line p t = sym p
   by-reading false false line p t = refl
 
-  pub line-print : isReading e ≡ true → stepOf c e .refusal ≡ 0 → printLine c ≡ lineOf c (Call e)
+  pub line-print : isReading e ≡ true → callOf c e .refusal ≡ 0 → printLine c ≡ lineOf c (Call e)
   unfolding lineOf outcomeOf printed
   line-print t z = simp (eq-eqb _ _ z) (sym (by-call c e ∙ simp t))
 
-  pub line-call : (isReading e && eqb (stepOf c e .refusal) 0) ≡ false → refusalLine (stepOf c e .refusal) ≡ lineOf c (Call e)
+  pub line-call : (isReading e && eqb (callOf c e .refusal) 0) ≡ false → refusalLine (callOf c e .refusal) ≡ lineOf c (Call e)
   unfolding refusalLine lineOf outcomeOf printed
-  line-call t = by-reading (isReading e) (eqb (stepOf c e .refusal) 0) _ (by-call c e) t
+  line-call t = by-reading (isReading e) (eqb (callOf c e .refusal) 0) _ (by-call c e) t

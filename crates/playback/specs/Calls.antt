@@ -1,4 +1,4 @@
--- A history as a list of calls, so that what holds of every list of calls (demand 3) holds of every history that is replayed.
+-- A history as a list of single calls, so that what holds of every list of events (demand 3) holds of every history that is replayed.
 use mathlib.Core.Path.{_≡_}
 use mathlib.Core.Bool.{false, cond}
 use mathlib.Core.List.{List, [], _∷_, _++_}
@@ -7,9 +7,11 @@ use lib.Dec.{leb, ltb}
 use lib.ListN.{length}
 use Rattle.clock.specs.Reading.{shown}
 use Rattle.event.specs.Event.{stepOf}
+use Rattle.event.specs.declared.event.Call.the-variants.{Reading}
 use Rattle.event.specs.declared.event.Event as call
-use Rattle.event.specs.declared.event.Event.the-variants.{Tick, Reading}
+use Rattle.event.specs.declared.event.Event.the-variants.{Call as single}
 use Rattle.bounds.specs.Calls.{clockAfter}
+use Rattle.bounds.specs.Singly.{singleTicks, asEvents}
 use Rattle.bounds.specs.Demand.{Demand3}
 use Rattle.history.specs.Event.{Found, found, refused, eventAt}
 use Rattle.history.specs.declared.Event.{Event}
@@ -17,15 +19,10 @@ use Rattle.history.specs.declared.Event.the-variants.{Ticks, Call}
 use Rattle.playback.specs.Lines.{printLine}
 use Rattle.playback.specs.Run.{longestHistory, startOfRun, step, runAfter, stepsToEnd, replayOf}
 
--- n single ticks
-unfoldable pub singleTicks : ℕ → List call.Event
-singleTicks zero = []
-singleTicks (suc n) = Tick ∷ singleTicks n
-
 -- The calls of an event: "`0 n` up to n single ticks". Where one is refused, those after it are refused too and change nothing.
 abbrev pub callsOfEvent : Event → List call.Event
-callsOfEvent (Ticks n) = singleTicks n
-callsOfEvent (Call e) = e ∷ []
+callsOfEvent (Ticks n) = asEvents (singleTicks n)
+callsOfEvent (Call e) = single e ∷ []
 
 -- the calls of what stands at a place, and then those of the rest; there are none in undecodable bytes, nor after them
 abbrev pub callsAs : (ℕ → List call.Event) → Found → List call.Event
@@ -56,10 +53,10 @@ pub record PrintAt (s : List ℕ) (k : ℕ) : Type 0 where
 pub record Tells (s : List ℕ) (k : ℕ) : Type 0 where
   -- the calls before the reading, and those after it
   pub later : List call.Event
-  pub among : callsOf s ≡ callsOfFirst k s ++ (Reading ∷ later)
+  pub among : callsOf s ≡ callsOfFirst k s ++ (single Reading ∷ later)
   -- the reading is accepted, and tells what the clock shows that the line prints
-  pub refusal : stepOf (clockAfter (callsOfFirst k s)) Reading .refusal ≡ 0
-  pub reading : stepOf (clockAfter (callsOfFirst k s)) Reading .reading ≡ shown (clockAfter (callsOfFirst k s))
+  pub refusal : stepOf (clockAfter (callsOfFirst k s)) (single Reading) .refusal ≡ 0
+  pub reading : stepOf (clockAfter (callsOfFirst k s)) (single Reading) .reading ≡ shown (clockAfter (callsOfFirst k s))
   pub line : step s (runAfter k s startOfRun) .line ≡ printLine (clockAfter (callsOfFirst k s))
 
 -- Demand 3 of a history that is replayed.

@@ -5,9 +5,9 @@ use Prim.Native.Nat.{ℕ}
 use lib.Dec.{eqb}
 use Rattle.clock.specs.declared.state.Clock.{Clock}
 use Rattle.clock.specs.declared.outcome.Outcome.{Outcome}
-use Rattle.event.specs.Event.{stepOf}
-use Rattle.event.specs.declared.event.Event as call
-use Rattle.event.specs.declared.event.Event.the-variants.{Tick, Setting, Request, Reading}
+use Rattle.event.specs.Event.{callOf}
+use Rattle.event.specs.declared.event.Call as call
+use Rattle.event.specs.declared.event.Call.the-variants.{Tick, Setting, Request, Reading}
 use Rattle.event.specs.declared.event.Stepped.{Stepped}
 use Rattle.history.specs.declared.Event.{Event}
 use Rattle.history.specs.declared.Event.the-variants.{Ticks, Call}
@@ -21,10 +21,10 @@ outcomeWith a = record { refusal = a .refusal; clock = a .clock }
 -- the refusal of an event, or 0, and the clock after it
 unfoldable pub outcomeOf : Clock → Event → Outcome
 outcomeOf c (Ticks n) = ticksOf n c
-outcomeOf c (Call e) = outcomeWith (stepOf c e)
+outcomeOf c (Call e) = outcomeWith (callOf c e)
 
 -- what an accepted call prints: nothing, but for a reading, which is the history's print
-unfoldable pub printedBy : Clock → call.Event → List ℕ
+unfoldable pub printedBy : Clock → call.Call → List ℕ
 printedBy c Tick = []
 printedBy c (Setting s u) = []
 printedBy c (Request r) = []

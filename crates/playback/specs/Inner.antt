@@ -7,8 +7,8 @@ use lib.Dec.{eqb, leb, ltb}
 use lib.ListN.{length}
 use lib.Seq.{sets}
 use Rattle.clock.specs.declared.state.Clock.{Clock}
-use Rattle.event.specs.declared.event.Event as call
-use Rattle.event.specs.declared.event.Event.the-variants.{Tick, Setting, Request, Reading}
+use Rattle.event.specs.declared.event.Call as call
+use Rattle.event.specs.declared.event.Call.the-variants.{Tick, Setting, Request, Reading}
 use Rattle.history.specs.declared.Event.{Event}
 use Rattle.playback.specs.Lines.{refusedLine}
 use Rattle.playback.specs.Event.{outcomeOf, lineOf}
@@ -23,7 +23,7 @@ pub record Puts (ws buf : List ℕ) (at : ℕ) (buf′ : List ℕ) (next : ℕ) 
   pub stores : buf′ ≡ sets buf at ws
   pub place : next ≡ at + length ws
 
-abbrev pub isReading : call.Event → Bool
+abbrev pub isReading : call.Call → Bool
 isReading Tick = false
 isReading (Setting s u) = false
 isReading (Request r) = false

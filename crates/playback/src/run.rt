@@ -60,14 +60,14 @@ pub fn start() -> Run
     }
 }
 
-fn is_reading(call: event::Event) -> bool
+fn is_reading(call: event::Call) -> bool
     ensures { λ r. ⌜ r ≡ isReading call ⌝ }
 {
     match call {
-        event::Event::Tick => false,
-        event::Event::Setting(_, _) => false,
-        event::Event::Request(_) => false,
-        event::Event::Reading => true,
+        event::Call::Tick => false,
+        event::Call::Setting(_, _) => false,
+        event::Call::Request(_) => false,
+        event::Call::Reading => true,
     }
 }
 
@@ -77,11 +77,11 @@ struct Done {
     at: usize,
 }
 
-fn run_call(c: Clock, call: event::Event, out: &mut [u8], at: usize) -> Done
+fn run_call(c: Clock, call: event::Call, out: &mut [u8], at: usize) -> Done
     requires { ⌜ at + longestLine ≤ length (now out) ⌝ }
     ensures { λ r. ⌜ RunsEvent c (Call call) (now (out .entry)) at (now (out .exit)) r ⌝ }
 {
-    let answer = step(c, call);
+    let answer = step(c, event::Event::Call(call));
     let clock = answer.clock;
     let refusal = answer.refusal;
     if is_reading(call) & (refusal == 0) {

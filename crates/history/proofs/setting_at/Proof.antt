@@ -4,7 +4,7 @@ use mathlib.Core.List.{List}
 use Prim.Native.Nat.{ℕ}
 use Rattle.number.specs.Reading.{numberAt, told}
 use Rattle.number.specs.Sequence.{then}
-use Rattle.event.specs.declared.event.Event.the-variants.{Setting}
+use Rattle.event.specs.declared.event.Call.the-variants.{Setting}
 use Rattle.history.specs.declared.Event.the-variants.{Call}
 use Rattle.history.specs.Event.{refused, Found, found, askedMicros, settingAt}
 use Rattle.number.proofs.Sequence.{Before, went, stopped}

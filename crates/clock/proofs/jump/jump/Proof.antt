@@ -8,10 +8,16 @@ use borrow.Author.Needs.{needs}
 use Rattle.clock.proofs.jump.jump.Statement.{statement}
 use Rattle.clock.proofs.jump.jump.Tie as tie
 
+known : (s : tie.Start) → Ok (s .args .c)
+known s = ok (s .args .c) (s .pre .0)
+
+within : (s : tie.Start) → Within (s .args .j - 1) (s .args .c)
+within s = s .pre .1
+
 cast-sum : tie.Need-cast-sum
 cast-sum c =
     let s = c .before .before in
-    let k : Ok (s .args .c) = ok (s .args .c) (s .pre .0) in
+    let k = known s in
     simp jumpReads (wide-phase (s .args .c) k)
 
 cast-sum-2 : tie.Need-cast-sum-2
@@ -20,21 +26,21 @@ cast-sum-2 c = search needs
 cast-sum-3 : tie.Need-cast-sum-3
 cast-sum-3 c =
     let s = c .before .before .before .before in
-    let k : Ok (s .args .c) = ok (s .args .c) (s .pre .0) in
+    let k = known s in
     simp jumpReads (wide-adjustment (s .args .c) k)
 
 mul-sum : tie.Need-mul-sum
 mul-sum c =
     let s = c .before .before .before .before in
-    let k : Ok (s .args .c) = ok (s .args .c) (s .pre .0) in
-    let w : Within (s .args .j - 1) (s .args .c) = s .pre .1 in
+    let k = known s in
+    let w = within s in
     simp (read-ticks (s .args .c) k (s .args .j) w, jumpReads) (fits-steps (s .args .c) k (s .args .j) w)
 
 add-sum : tie.Need-add-sum
 add-sum c =
     let s = c .before .before .before .before in
-    let k : Ok (s .args .c) = ok (s .args .c) (s .pre .0) in
-    let w : Within (s .args .j - 1) (s .args .c) = s .pre .1 in
+    let k = known s in
+    let w = within s in
     simp (read-ticks (s .args .c) k (s .args .j) w, jumpReads) (fits-sums (s .args .c) k (s .args .j) w)
 
 cast-carry : tie.Need-cast-carry
@@ -43,8 +49,8 @@ cast-carry c = search needs
 div-carry : tie.Need-div-carry
 div-carry c =
     let s = c .before .before .before .before in
-    let k : Ok (s .args .c) = ok (s .args .c) (s .pre .0) in
-    let w : Within (s .args .j - 1) (s .args .c) = s .pre .1 in
+    let k = known s in
+    let w = within s in
     simp (read-ticks (s .args .c) k (s .args .j) w, jumpReads) (lit< tt, fits-carries (s .args .c) k (s .args .j) w)
 
 cast-t9 : tie.Need-cast-t9
@@ -65,15 +71,15 @@ cast-t8 c = search needs
 add-t5 : tie.Need-add-t5
 add-t5 c =
     let s = c .before .before .before .before .before .before in
-    let k : Ok (s .args .c) = ok (s .args .c) (s .pre .0) in
-    let w : Within (s .args .j - 1) (s .args .c) = s .pre .1 in
+    let k = known s in
+    let w = within s in
     simp (read-ticks (s .args .c) k (s .args .j) w, jumpReads) (fits-later (s .args .c) k (s .args .j) w)
 
 cast-t18 : tie.Need-cast-t18
 cast-t18 c =
     let s = c .before .before .before .before .before .before in
-    let k : Ok (s .args .c) = ok (s .args .c) (s .pre .0) in
-    let w : Within (s .args .j - 1) (s .args .c) = s .pre .1 in
+    let k = known s in
+    let w = within s in
     simp (read-ticks (s .args .c) k (s .args .j) w, jumpReads) (later-nonNeg (s .args .c) k (s .args .j) w, fits-micros-later (s .args .c) k (s .args .j) w)
 
 cast-t7 : tie.Need-cast-t7
@@ -82,29 +88,29 @@ cast-t7 c = search needs
 mul-t6 : tie.Need-mul-t6
 mul-t6 c =
     let s = c .before .before .before .before .before .before in
-    let k : Ok (s .args .c) = ok (s .args .c) (s .pre .0) in
-    let w : Within (s .args .j - 1) (s .args .c) = s .pre .1 in
+    let k = known s in
+    let w = within s in
     simp (read-ticks (s .args .c) k (s .args .j) w, jumpReads) (fits-wholes (s .args .c) k (s .args .j) w)
 
 sub-t20 : tie.Need-sub-t20
 sub-t20 c =
     let s = c .before .before .before .before .before .before in
-    let k : Ok (s .args .c) = ok (s .args .c) (s .pre .0) in
-    let w : Within (s .args .j - 1) (s .args .c) = s .pre .1 in
+    let k = known s in
+    let w = within s in
     simp (read-ticks (s .args .c) k (s .args .j) w, jumpReads) (fits-left (s .args .c) k (s .args .j) w)
 
 cast-t21 : tie.Need-cast-t21
 cast-t21 c =
     let s = c .before .before .before .before .before .before in
-    let k : Ok (s .args .c) = ok (s .args .c) (s .pre .0) in
-    let w : Within (s .args .j - 1) (s .args .c) = s .pre .1 in
+    let k = known s in
+    let w = within s in
     simp (read-ticks (s .args .c) k (s .args .j) w, jumpReads) (fits-phase-left (s .args .c) k (s .args .j) w)
 
 returns : tie.Need-returns
 returns c =
     let s = c .before .before .before .before .before .before in
-    let k : Ok (s .args .c) = ok (s .args .c) (s .pre .0) in
-    let w : Within (s .args .j - 1) (s .args .c) = s .pre .1 in
+    let k = known s in
+    let w = within s in
     simp (read-ticks (s .args .c) k (s .args .j) w, jumpReads)
 
 pub jump-spec : {M : Type 1} → statement M

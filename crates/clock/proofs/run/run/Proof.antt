@@ -4,7 +4,6 @@ use mathlib.Core.Path.{_≡_, sym, _∙_}
 use mathlib.Core.Bool.{true}
 use Prim.Native.Nat.{_+_, _-_, _≤_}
 use native.Mathlib.Omega.{arith}
-use borrow.Author.Needs.{needs}
 use Rattle.clock.specs.State.{inRange}
 use Rattle.clock.specs.Ticks.{ranOf}
 use Rattle.clock.specs.Inner.{adds}

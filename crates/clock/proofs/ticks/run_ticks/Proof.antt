@@ -1,9 +1,7 @@
 -- `clock::run_ticks`: a run that does not stop at a rollover.
-use mathlib.Core.Path.{_≡_, sym, _∙_, ap}
-use mathlib.Core.Bool.{true}
+use mathlib.Core.Path.{sym, _∙_}
 use borrow.Author.Needs.{needs}
 use borrow.Author.Tests.{not-true, not-false}
-use Rattle.clock.specs.State.{inRange}
 use Rattle.clock.specs.Ticks.{ticksOf}
 use Rattle.clock.proofs.ticks.run_ticks.Statement.{statement}
 use Rattle.clock.proofs.ticks.run_ticks.Tie as tie

@@ -3,67 +3,28 @@ use borrow.Author.Needs.{needs}
 use Rattle.event.proofs.event.step.Statement.{statement}
 use Rattle.event.proofs.event.step.Tie as tie
 
-enum-told : tie.Need-enum-told
-enum-told c = search needs
-
-tick-requires : tie.Need-tick-requires
-tick-requires c κs = search needs
-
-step-with-requires : tie.Need-step-with-requires
-step-with-requires c κs = search needs
-
 enum-known-e : tie.Need-enum-known-e
 enum-known-e c = search needs
 
-set-requires : tie.Need-set-requires
-set-requires c κs = search needs
-
-step-with-requires-2 : tie.Need-step-with-requires-2
-step-with-requires-2 c κs = search needs
+step-call-requires : tie.Need-step-call-requires
+step-call-requires c κs = search needs
 
 enum-known-e-2 : tie.Need-enum-known-e-2
 enum-known-e-2 c = search needs
 
-adjust-requires : tie.Need-adjust-requires
-adjust-requires c κs = search needs
+catch-up-requires : tie.Need-catch-up-requires
+catch-up-requires c κs = search needs
 
-step-with-requires-3 : tie.Need-step-with-requires-3
-step-with-requires-3 c κs = search needs
-
-enum-told-2 : tie.Need-enum-told-2
-enum-told-2 c = search needs
-
-read-requires : tie.Need-read-requires
-read-requires c κs = search needs
+step-many-requires : tie.Need-step-many-requires
+step-many-requires c κs = search needs
 
 returns : tie.Need-returns
-returns c = simp (c .before .before .enum-told .given .1, c .step-with .ensures, c .before .tick .ensures)
+returns c = simp (c .before .before .e .given .1, c .step-call .ensures)
 
 returns-2 : tie.Need-returns-2
-returns-2 c = simp (c .before .before .before .e .given .1, c .step-with2 .ensures, c .before .set .ensures)
-
-returns-3 : tie.Need-returns-3
-returns-3 c = simp (c .before .before .before .e2 .given .1, c .step-with3 .ensures, c .before .adjust .ensures)
-
-returns-4 : tie.Need-returns-4
-returns-4 c = simp (c .before .before .enum-told2 .given .1, c .before .read .ensures)
+returns-2 c = simp (c .before .before .before .e2 .given .1, c .step-many .ensures, c .before .catch-up .ensures .0)
 
 pub step-spec : {M : Type 1} → statement M
 step-spec =
     tie.close
-    (tie.spec
-    enum-told
-    tick-requires
-    step-with-requires
-    enum-known-e
-    set-requires
-    step-with-requires-2
-    enum-known-e-2
-    adjust-requires
-    step-with-requires-3
-    enum-told-2
-    read-requires
-    returns
-    returns-2
-    returns-3
-    returns-4)
+    (tie.spec enum-known-e step-call-requires enum-known-e-2 catch-up-requires step-many-requires returns returns-2)

@@ -1,0 +1,55 @@
+-- A list of events and its ticks made singly: clock, answers and book agree.
+use mathlib.Core.Path.{_≡_, refl, sym, _∙_, ap, subst}
+use mathlib.Core.List.{List, [], _∷_, _++_, append-assoc, append-nil}
+use Rattle.clock.specs.State.{freshClock}
+use Rattle.clock.specs.declared.state.Clock.{Clock}
+use Rattle.event.specs.Event.{callOf, stepOf}
+use Rattle.event.specs.declared.event.Call as call
+use Rattle.event.specs.declared.event.Event.{Event}
+use Rattle.bounds.specs.Calls.{afterBy, after, clockAfter}
+use Rattle.bounds.specs.Singly.{singleCalls, singlyFrom, singly}
+use Rattle.bounds.specs.Book.{emptyBook, bookFrom}
+use Rattle.bounds.specs.Demand.{bookOf}
+use Rattle.bounds.specs.MadeSingly.{AnswersAs, InPlace, EveryListMadeSingly}
+use Rattle.bounds.proofs.Runs.{after-append, bookFrom-append}
+use Rattle.bounds.proofs.Ticked.{answers-as, clock-singly}
+
+pub after-singly : (c : Clock) (es : List Event) → afterBy stepOf c es ≡ after c (singlyFrom c es)
+unfolding afterBy singlyFrom
+after-singly c [] = refl
+after-singly c (e ∷ es) =
+    after-singly (stepOf c e .clock) es
+    ∙ ap (λ (d : Clock). after d (singlyFrom (stepOf c e .clock) es)) (clock-singly c e)
+    ∙ sym (after-append callOf c (singleCalls c e) (singlyFrom (stepOf c e .clock) es))
+
+pub singly-append : (c : Clock) (xs ys : List Event) → singlyFrom c (xs ++ ys) ≡ singlyFrom c xs ++ singlyFrom (afterBy stepOf c xs) ys
+unfolding afterBy singlyFrom
+singly-append c [] ys = refl
+singly-append c (e ∷ xs) ys =
+    ap (λ (ks : List call.Call). singleCalls c e ++ ks) (singly-append (stepOf c e .clock) xs ys)
+    ∙ sym (append-assoc (singleCalls c e) (singlyFrom (stepOf c e .clock) xs) _)
+
+module _ (before : List Event) (e : Event) where
+  singly-last : singly (before ++ (e ∷ [])) ≡ singly before ++ singleCalls (clockAfter before) e
+  unfolding singlyFrom
+  singly-last =
+      singly-append freshClock before (e ∷ [])
+      ∙ ap (λ (ks : List call.Call). singly before ++ ks) (append-nil (singleCalls (clockAfter before) e))
+
+  pub book-last : bookOf (before ++ (e ∷ [])) ≡ bookFrom (clockAfter before) (bookOf before) (singleCalls (clockAfter before) e)
+  book-last =
+      ap (λ (ks : List call.Call). bookFrom freshClock emptyBook ks) singly-last
+      ∙ bookFrom-append freshClock emptyBook (singly before) (singleCalls (clockAfter before) e)
+      ∙ ap (λ (c : Clock). bookFrom c (bookOf before) (singleCalls (clockAfter before) e)) (sym (after-singly freshClock before))
+
+  in-place : (later : List Event) → InPlace before later e
+  unfolding singlyFrom afterBy
+  in-place later =
+      record {
+        place = rw (after-append stepOf freshClock before (e ∷ [])) (singly-append freshClock before (e ∷ later));
+        answers = subst (λ (c : Clock). AnswersAs (clockAfter before) c e) (after-singly freshClock before) (answers-as (clockAfter before) e);
+        book = book-last;
+      }
+
+pub made-singly : EveryListMadeSingly
+made-singly events = record { clock = after-singly freshClock events; each = λ before later e _. in-place before e later }
