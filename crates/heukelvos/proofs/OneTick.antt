@@ -1,5 +1,5 @@
 -- A run of one tick is that tick.
-use mathlib.Core.Path.{_≡_, refl, _∙_}
+use mathlib.Core.Path.{_≡_, _∙_}
 use mathlib.Core.Bool.{cond, true}
 use lib.Dec.{eqb}
 use Rattle.clock.specs.State.{inRange}

@@ -13,29 +13,29 @@ use prog.Memory.{Memory}
 use prog.Routine.{Routine}
 use prog.Wp.{Heap, Calls, Loops, WpFn, Tables}
 use ghost.Atoms.{Atoms, sem}
-use contract.Monad.{Fun, fact}
+use contract.Monad.{Fun, fact, factI}
 use contract.Running.{givenOf, tables, tablesOf}
-use types.Kit.{Given, ‵, raw, _⊛_, ⋆, _$_, _∵_, !, qed, by, move, keep, drop, use2, split, join, rewrite, fsplit, fsplit3, fjoin, fjoin3, feqI, suffices, frame, done}
+use types.Kit.{Given, ‵, raw, _⊛_, ⋆, _$_, _∵_, !, qed, by, move, keep, drop, use2, split, join, rewrite, fsplit, fsplit3, frame, done}
 use types.Run.{look, look-raw, init, store-raw, forget, stop, hop, fld, from, load, of-opd, and-then, no-more, assigns, land, returns, enter, alloc1, alloc0, params1, pass1, pass0, free1, free0}
 use types.Part.{whole, sub, look-in}
 use types.SemTy.{Body}
-use sound.WpLaws.{FmC, fmOf, WpFn-mono}
+use sound.WpLaws.{FmC, fmOf}
 use denote.RattleType.{owns}
 use denote.Exit.{yes}
 use denote.Laws.{Is}
 use denote.Memory.{mem}
 use denote.Plain.{uint-vals, uint-tells, bool-vals, bool-tells}
 use denote.Builtin.{u64, bool}
-use denote.Ref.{RefT, MutRef, ptr-vals, mut-tells}
-use denote.Signature.{plain}
-use denote.Steps.{owned, nothing}
+use denote.Ref.{MutRef}
+use denote.Signature.{Slot, plain}
+use denote.Steps.{nothing}
 use denote.Struct.Laws as L
 use denote.Triple.Statement.{Contract, Triple}
 use denote.Triple.Call.{calls-at}
 use denote.Triple.Entry.{onEntry}
 use denote.Triple.Spec.{Meets, tripleOf}
 use denote.Triple.Table.{entered, cited}
-use denote.Triple.Walked.{says, Stays, stay-ref, stay-dropped, walkOf, AllGo, goes-ref, goes-dropped, Walks, ends-at, walked, walk-meets}
+use denote.Triple.End.{Kepts}
 use denote.Triple.Clauses.{ensured, lasts}
 use Rattle.clock.specs.Ticks.{catchUpOf}
 use Rattle.clock.specs.declared.state.Clock.{Clock}
@@ -53,14 +53,18 @@ use Rattle.heukelvos.proofs.lent.caught_up.Symbol as callee-def
 use Rattle.heukelvos.proofs.lent.caught_up.Symbol.{name as #callee}
 use Rattle.heukelvos.proofs.lent.caught_up.Met as callee-thm
 use Rattle.heukelvos.proofs.Kept.{catch-up-kept}
-use Rattle.heukelvos.proofs.InPlace.{value, IsClock, is-value, opened, handed-back, answered}
+use Rattle.heukelvos.proofs.InPlace.{value, IsClock, is-value, opened, handed-back, answered, Left, ends, meets}
 use Rattle.heukelvos.proofs.lent.heukelvos_catch_up.Key.{name as #this}
 use Rattle.heukelvos.proofs.lent.heukelvos_catch_up as f
 use Rattle.heukelvos.proofs.lent.heukelvos_catch_up.Statement as stated
 use Rattle.heukelvos.proofs.lent.heukelvos_catch_up.Code as code
 
-abbrev stayed : Stays (f.ended .signature .params) (f.ended .kept)
-stayed = (stay-ref (0 ∷ []) tt (plain (λ _. T.the-row)), (stay-dropped (plain (λ _. u64)) yes, (stay-dropped (plain (λ _. bool)) yes, tt)))
+-- the other parameters' slots, and how each is kept
+abbrev others : List (Slot 1)
+others = plain (λ _. u64) ∷ plain (λ _. bool) ∷ []
+
+abbrev kept : Kepts others
+kept = (yes, (yes, tt))
 
 abbrev told : Counted → Val
 told n = L.val N.the-type N′.the-laws n
@@ -83,35 +87,33 @@ module _ {M : Type 1} (𝓤 : URA M) (H : Heap 𝓤) (A : Atoms 𝓤) (at-mem : 
   said h n s r = exE 𝓤 _ (λ ws. snd∗ 𝓤 (sem 𝓤 H A (lasts callee.ended tt (h, (n, (s, tt))) ws)) (fact 𝓤 (r ≡ parted (catchUpOf h n s))))
 
 module _ {M : Type 1} (𝓤 : URA M) (H : Heap 𝓤) (A : Atoms 𝓤) (W : Given 𝓤 H A) (at-mem : Memory → SProp 𝓤) (run : Routine → Fun 𝓤) (κ : Lft) (q : Share) (b o : ℕ) (γ : GName) (h : Clock) (n : ℕ) (s : Bool) where
-  abbrev x : RefT Clock × (ℕ × (Bool × Unit {0}))
-  x = (record { ptr = (b, o); name = γ; now = h }, (n, (s, tt)))
+  abbrev given : ℕ × (Bool × Unit {0})
+  given = (n, (s, tt))
 
-  abbrev at : List Val × (List Val × (List Val × Unit {0}))
-  at = (vptr b o ∷ [], (vint w64 n ∷ [], (vbool s ∷ [], tt)))
+  abbrev given-at : List Val × (List Val × Unit {0})
+  given-at = (vint w64 n ∷ [], (vbool s ∷ [], tt))
 
   abbrev Post : Val → SProp 𝓤
-  Post = walkOf 𝓤 H A f.ended stayed (f.clauses 𝓤 H A at-mem run) .post (((κ, tt), (q, tt), tt, x, at), tt)
+  Post = Left 𝓤 H A W others kept N.the-row (f.clauses 𝓤 H A at-mem run) κ q b o γ h given given-at tt
 
   exits : (r : Parted) → r ≡ parted (catchUpOf h n s) → IsCounted (r .answer) → ent 𝓤 (⋆ 𝓤 H A (‵ (fobs γ (T.the-row .coded .code (r .clock))) ∷ ‵ (fbor κ (Body (mem T.the-row) b o γ)) ∷ ‵ (flft κ q) ∷ [])) (Post (told (r .answer)))
-  exits r e fits =
-      qed W (‵ (fobs γ (T.the-row .coded .code (r .clock))) ∷ ‵ (fbor κ (Body (mem T.the-row) b o γ)) ∷ ‵ (flft κ q) ∷ []) ∵
-      suffices ! _ (ends-at 𝓤 H A f.ended stayed (f.clauses 𝓤 H A at-mem run) W (((κ, tt), (q, tt), tt, x, at), tt) (told (r .answer)) (r .answer) (r .clock, (tt, (tt, tt))) (tt, (tt, (tt, tt)))) $ says ! (ap (λ (t : Parted). t .answer) e, ap (λ (t : Parted). t .clock) e, subst (λ (t : Parted). Kept (t .answer .refusal) h (t .clock)) (sym e) (catch-up-kept h n s)) $
-      nothing ! $ move ! (3 ∷ 0 ∷ []) $ join ! $ frame ! $ feqI ! (List Val) (vptr b o ∷ []) (vptr b o ∷ []) refl $ fjoin3 ! $ nothing ! $ nothing ! $ fjoin ! $ nothing ! $ fjoin ! $ move ! (1 ∷ 0 ∷ []) $ fjoin ! $
-      owned ! N.the-row (Is N.the-row) (L.makes N.the-type N′.the-plain 𝓤 H A) (r .answer) _ fits $ move ! (1 ∷ 0 ∷ []) $ done !
+  exits r e is =
+      ends 𝓤 H A W others kept N.the-row (f.clauses 𝓤 H A at-mem run) κ q b o γ h given given-at tt (tt, (tt, tt)) (r .answer) (told (r .answer)) (r .clock) (L.makes N.the-type N′.the-plain 𝓤 H A (r .answer) _ is)
+      (factI 𝓤 _ (emp 𝓤) (ap (λ (t : Parted). t .answer) e, ap (λ (t : Parted). t .clock) e, subst (λ (t : Parted). Kept (t .answer .refusal) h (t .clock)) (sym e) (catch-up-kept h n s)))
 
   abbrev asked : Callee 𝓤 H A at-mem run .Ghost
-  asked = ((tt, tt, tt, (h, (n, (s, tt))), (value h ∷ [], (vint w64 n ∷ [], (vbool s ∷ [], tt)))), tt)
+  asked = ((tt, tt, tt, (h, given), (value h ∷ [], given-at)), tt)
 
-  abbrev others : Fml
-  others = owns (u64 ∷ bool ∷ []) (n, (s, tt)) (vint w64 n ∷ [], (vbool s ∷ [], tt))
+  abbrev owned-others : Fml
+  owned-others = owns (u64 ∷ bool ∷ []) given given-at
 
-  goes-in : ent 𝓤 (sep 𝓤 (sem 𝓤 H A (T.the-row .own h (value h ∷ []))) (sem 𝓤 H A others)) (Callee 𝓤 H A at-mem run .pre asked)
-  goes-in = qed W (‵ (T.the-row .own h (value h ∷ [])) ∷ ‵ others ∷ []) ∵ join ! $ nothing ! $ join ! $ frame ! $ done !
+  goes-in : ent 𝓤 (sep 𝓤 (sem 𝓤 H A (T.the-row .own h (value h ∷ []))) (sem 𝓤 H A owned-others)) (Callee 𝓤 H A at-mem run .pre asked)
+  goes-in = qed W (‵ (T.the-row .own h (value h ∷ [])) ∷ ‵ owned-others ∷ []) ∵ join ! $ nothing ! $ join ! $ frame ! $ done !
 
   module _ (C : Calls 𝓤 H) (Λ : Loops 𝓤 H) (fm : FmC 𝓤 H (W .laws) C) (known : Triple 𝓤 (C #callee) (Callee 𝓤 H A at-mem run)) where
-    walk : n < 2 ^ 64 → ent 𝓤 (onEntry 𝓤 H A f.signature (κ, tt) (q, tt) x at) (WpFn 𝓤 H C Λ code.function (vptr b o ∷ vint w64 n ∷ vbool s ∷ []) Post)
+    walk : n < 2 ^ 64 → ent 𝓤 (onEntry 𝓤 H A f.signature (κ, tt) (q, tt) (record { ptr = (b, o); name = γ; now = h }, given) (vptr b o ∷ [], given-at)) (WpFn 𝓤 H C Λ code.function (vptr b o ∷ vint w64 n ∷ vbool s ∷ []) Post)
     walk fits =
-        qed W ((‵ (flft κ q) ⊛ ‵ ftrue) ∷ ‵ (owns (MutRef (named 0) κ T.the-row ∷ u64 ∷ bool ∷ []) x at) ∷ []) ∵ split ! $ move ! (2 ∷ []) $ fsplit ! $ fsplit3 ! $ drop ! $ move ! (0 ∷ 1 ∷ 3 ∷ []) $
+        qed W ((‵ (flft κ q) ⊛ ‵ ftrue) ∷ ‵ (owns (MutRef (named 0) κ T.the-row ∷ u64 ∷ bool ∷ []) (record { ptr = (b, o); name = γ; now = h }, given) (vptr b o ∷ [], given-at)) ∷ []) ∵ split ! $ move ! (2 ∷ []) $ fsplit ! $ fsplit3 ! $ drop ! $ move ! (0 ∷ 1 ∷ 3 ∷ []) $
         -- [obs; the borrow; the token; the other parameters; true]
         enter ! C Λ code.function (vptr b o ∷ vint w64 n ∷ vbool s ∷ []) _ $
         alloc1 ! (λ l₀. alloc1 ! (λ l₁. alloc1 ! (λ l₂. alloc1 ! (λ l₃. alloc1 ! (λ l₄. alloc1 ! (λ l₅. alloc0 ! $
@@ -122,7 +124,7 @@ module _ {M : Type 1} (𝓤 : URA M) (H : Heap 𝓤) (A : Atoms 𝓤) (W : Given
         assigns ! (of-opd ! (load ! (from ! (hop ! (look ! 13 refl) (stop !))) (look-raw ! 0 refl))) (from ! (stop !)) (init ! 5 refl (L.lawful T.the-type T′.the-laws 𝓤 H A W .typed h _ was .0)) $
         move ! (1 ∷ 17 ∷ []) $ use2 W (raw (Callee 𝓤 H A at-mem run .pre asked)) goes-in $
         calls-at ! fm (Callee 𝓤 H A at-mem run) known asked (and-then ! (load ! (from ! (stop !)) (look ! 5 refl)) (and-then ! (load ! (from ! (stop !)) (look ! 11 refl)) (and-then ! (load ! (from ! (stop !)) (look ! 9 refl)) (no-more !)))) (λ v.
-        answered ! tt R.the-type _ (λ r. ensured 𝓤 H A callee.ended (callee.clauses 𝓤 H A at-mem run) tt (h, (n, (s, tt))) tt r) (λ r. r ≡ parted (catchUpOf h n s)) v (id⊢ 𝓤 _) (said 𝓤 H A at-mem run h n s) (λ r e is.
+        answered ! tt R.the-type _ (λ r. ensured 𝓤 H A callee.ended (callee.clauses 𝓤 H A at-mem run) tt (h, given) tt r) (λ r. r ≡ parted (catchUpOf h n s)) v (id⊢ 𝓤 _) (said 𝓤 H A at-mem run h n s) (λ r e is.
         -- [the clock's cell; the open borrow; obs; auth; _5; …; _4; …; _3; …; _2; …; _1; …; _0; …]
         land ! (from ! (stop !)) (init ! 6 refl (L.lawful R.the-type R′.the-laws 𝓤 H A W .typed r _ is .0)) $
         rewrite ! 6 (λ (u : Val). ‵ (fat fullShare R′.mir l₄ 0 u)) (is-value R.the-type R′.the-laws r v is) refl $
@@ -133,22 +135,16 @@ module _ {M : Type 1} (𝓤 : URA M) (H : Heap 𝓤) (A : Atoms 𝓤) (W : Given
         move ! (13 ∷ 14 ∷ []) $ free1 ! $ move ! (11 ∷ 12 ∷ []) $ free1 ! $ move ! (9 ∷ 10 ∷ []) $ free1 ! $ move ! (7 ∷ 8 ∷ []) $ free1 ! $ move ! (5 ∷ 6 ∷ []) $ free1 ! $ move ! (3 ∷ 4 ∷ []) $ free1 ! $ free0 ! $
         keep ! (0 ∷ 1 ∷ 2 ∷ []) $ by ! (exits r e (in-answer r v is)))))))))))
 
-module _ {M : Type 1} (𝓤 : URA M) (H : Heap 𝓤) (A : Atoms 𝓤) (W : Given 𝓤 H A) (at-mem : Memory → SProp 𝓤) (run : Routine → Fun 𝓤) where
-  walks : (C : Calls 𝓤 H) (Λ : Loops 𝓤 H) → FmC 𝓤 H (W .laws) C → Triple 𝓤 (C #callee) (Callee 𝓤 H A at-mem run) → Walks 𝓤 H A f.ended stayed (WpFn 𝓤 H C Λ code.function) (f.clauses 𝓤 H A at-mem run)
-  walks C Λ fm known = walked 𝓤 H A f.ended stayed (f.clauses 𝓤 H A at-mem run) (WpFn 𝓤 H C Λ code.function) (λ κs. (ptr-vals, (uint-vals w64, (bool-vals, tt)))) (λ κs. (mut-tells (named 0) (κs .0) T.the-row, (uint-tells w64, (bool-tells, tt))))
-      (λ κs qs bounds a _ are. via 𝓤 _ (fst∗ 𝓤 _ (emp 𝓤)) (walk 𝓤 H A W at-mem run (κs .0) (qs .0) (a .0 .ptr .0) (a .0 .ptr .1) (a .0 .name) (a .0 .now) (a .1 .0) (a .1 .1 .0) C Λ fm known (are .1 .0 .1)))
-
-  goes : AllGo 𝓤 H A W 1 (f.signature .params) (f.ended .kept) stayed
-  goes = (goes-ref 𝓤 H A W 1 0 tt (plain (λ _. T.the-row)), (goes-dropped 𝓤 H A W 1 (plain (λ _. u64)) yes (λ κs x f. refl), (goes-dropped 𝓤 H A W 1 (plain (λ _. bool)) yes (λ κs x f. refl), tt)))
-
-meets : {M : Type 1} (𝓤 : URA M) (H : Heap 𝓤) (A : Atoms 𝓤) (W : Given 𝓤 H A) (at-mem : Memory → SProp 𝓤) (run : Routine → Fun 𝓤) (𝓣 : Tables 𝓤 H) → Triple 𝓤 (𝓣 .C #callee) (Callee 𝓤 H A at-mem run)
+met : {M : Type 1} (𝓤 : URA M) (H : Heap 𝓤) (A : Atoms 𝓤) (W : Given 𝓤 H A) (at-mem : Memory → SProp 𝓤) (run : Routine → Fun 𝓤) (𝓣 : Tables 𝓤 H) → Triple 𝓤 (𝓣 .C #callee) (Callee 𝓤 H A at-mem run)
     → Meets 𝓤 H A f.signature (WpFn 𝓤 H (𝓣 .C) (𝓣 .Λ) code.function) (f.spec 𝓤 H A at-mem run)
-meets 𝓤 H A W at-mem run 𝓣 known = walk-meets 𝓤 H A f.ended stayed W (goes 𝓤 H A W at-mem run) (f.clauses 𝓤 H A at-mem run) (WpFn 𝓤 H (𝓣 .C) (𝓣 .Λ) code.function) (WpFn-mono 𝓤 H (W .laws) 𝓣 code.function) (walks 𝓤 H A W at-mem run (𝓣 .C) (𝓣 .Λ) (fmOf 𝓤 H (W .laws) 𝓣) known)
+met 𝓤 H A W at-mem run 𝓣 known =
+    meets 𝓤 H A W others kept N.the-row (f.clauses 𝓤 H A at-mem run) (λ κs x l. refl, (λ κs x l. refl, tt)) 𝓣 code.function (λ _. (uint-vals w64, (bool-vals, tt))) (λ _. (uint-tells w64, (bool-tells, tt)))
+    (λ κ q b o γ h ys _ are. via 𝓤 _ (fst∗ 𝓤 _ (emp 𝓤)) (walk 𝓤 H A W at-mem run κ q b o γ h (ys .0) (ys .1 .0) (𝓣 .C) (𝓣 .Λ) (fmOf 𝓤 H (W .laws) 𝓣) known (are .0 .1)))
 
 pub heukelvos-catch-up-spec : {M : Type 1} → stated.statement M
 unfolding code.routine tablesOf
 heukelvos-catch-up-spec 𝓤 H 𝓜 𝓖 𝓡 =
     entered 𝓤 H (tripleOf 𝓤 H (𝓖 .A) f.signature (f.spec 𝓤 H (𝓖 .A) (𝓜 .mem) (𝓡 .run)))
     (tables 𝓤 H 𝓜 𝓡 code.env .C) (tables 𝓤 H 𝓜 𝓡 code.env .Λ) #this code.function (code.unfolded 𝓤 H 𝓜 𝓡)
-    (meets 𝓤 H (𝓖 .A) (givenOf 𝓤 H 𝓜 𝓖) (𝓜 .mem) (𝓡 .run) (tablesOf 𝓤 H 𝓜 (tables 𝓤 H 𝓜 𝓡 code.env))
+    (met 𝓤 H (𝓖 .A) (givenOf 𝓤 H 𝓜 𝓖) (𝓜 .mem) (𝓡 .run) (tablesOf 𝓤 H 𝓜 (tables 𝓤 H 𝓜 𝓡 code.env))
     (cited 𝓤 H (Callee 𝓤 H (𝓖 .A) (𝓜 .mem) (𝓡 .run)) 𝓜 𝓡 code.env #callee callee-def.routine code.calls-heukelvos·lent·caught-up (callee-thm.met 𝓤 H 𝓜 𝓖 𝓡)))
