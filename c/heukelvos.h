@@ -153,13 +153,13 @@ struct heukelvos_told {
 /*
  * The clock lent, and changed in place: for a timer handler.
  *
- * heukelvos_tick: one tick of the 256 Hz timer, hardclock() of RFC 1589. Answers 0; or 1, 3, and the clock is as it was.
+ * heukelvos_tick: one tick of the 256 Hz timer, hardclock() of RFC 1589. Answers 0; or 1, 3, and the clock is as it was, not written to.
  *
  * heukelvos_catch_up: up to `ceiling` ticks in one call, the same as that many single ones, as far as the first that is refused; with
  * `stop`, none after one that rolls the second over (an inserted second counts as one). Answers refusal 1 for a clock out of range, then 16
- * for a ceiling above 65,536, with count 0 and tick_refusal 0, and the clock is as it was. Else refusal 0, how many ticks were accepted,
- * and tick_refusal 3 if one was refused for the last second, 0 if not: the clock then is the one that the accepted ticks led to. Ceiling 0
- * is accepted and does nothing. The ceiling is reached before a refusal is looked for.
+ * for a ceiling above 65,536, with count 0 and tick_refusal 0, and the clock is as it was, not written to. Else refusal 0, how many ticks
+ * were accepted, and tick_refusal 3 if one was refused for the last second, 0 if not: the clock then is the one that the accepted ticks led
+ * to. Ceiling 0 is accepted and does nothing. The ceiling is reached before a refusal is looked for.
  */
 uint8_t heukelvos_tick(struct heukelvos_clock *clock);
 struct heukelvos_counted heukelvos_catch_up(struct heukelvos_clock *clock, uint64_t ceiling, bool stop);
