@@ -9,9 +9,13 @@ use Rattle.clock.specs.declared.state.Clock.{Clock}
 use Rattle.clock.specs.declared.run.CaughtUp.{CaughtUp}
 use Rattle.heukelvos.specs.Lent.{Kept}
 
-pub tick-kept : (c : Clock) → Kept (tickOf c .refusal) c (tickOf c .clock)
+-- what was lent is kept, where the clock that is then there is the one that was
+pub kept : (refusal : ℕ) (before after : Clock) → (eqb refusal 0 ≡ false → after ≡ before) → Kept refusal before after
+kept refusal before after same refused = rw (same refused) refl
+
+pub tick-same : (c : Clock) → eqb (tickOf c .refusal) 0 ≡ false → tickOf c .clock ≡ c
 unfolding tickOf
-tick-kept c refused = simp refused
+tick-same c refused = simp refused
 
 -- a run is not refused itself
 either : (accepted stops : Bool) (x y z : CaughtUp) → x .refusal ≡ 0 → y .refusal ≡ 0 → z .refusal ≡ 0
@@ -28,10 +32,10 @@ ran-accepted stop (suc n) c =
     refl (ran-accepted stop n (tickOf c .clock)) refl
 
 by-refusal : (accepted : Bool) (k : ℕ) (c : Clock) (r : CaughtUp) → r .refusal ≡ 0
-    → Kept (cond accepted r (refusedWith k c) .refusal) c (cond accepted r (refusedWith k c) .clock)
+    → eqb (cond accepted r (refusedWith k c) .refusal) 0 ≡ false → cond accepted r (refusedWith k c) .clock ≡ c
 by-refusal true k c r p refused = absurd (true≢false (rw p at refused))
 by-refusal false k c r p refused = refl
 
-pub catch-up-kept : (c : Clock) (n : ℕ) (stop : Bool) → Kept (catchUpOf c n stop .refusal) c (catchUpOf c n stop .clock)
+pub catch-up-same : (c : Clock) (n : ℕ) (stop : Bool) → eqb (catchUpOf c n stop .refusal) 0 ≡ false → catchUpOf c n stop .clock ≡ c
 unfolding catchUpOf
-catch-up-kept c n stop = by-refusal (eqb (catchUpRefusal c n) 0) (catchUpRefusal c n) c (ranOf stop n c) (ran-accepted stop n c)
+catch-up-same c n stop = by-refusal (eqb (catchUpRefusal c n) 0) (catchUpRefusal c n) c (ranOf stop n c) (ran-accepted stop n c)

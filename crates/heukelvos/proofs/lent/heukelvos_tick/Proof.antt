@@ -1,6 +1,6 @@
 -- `heukelvos::heukelvos_tick`: a walk of its MIR, over the by-value tick.
 use mathlib.Core.Path.{_≡_, refl, sym, _∙_, ap, subst}
-use mathlib.Core.Bool.{cond}
+use mathlib.Core.Bool.{cond, false}
 use lib.Dec.{eqb}
 use Prim.Native.Nat.{ℕ, _<_, _^_}
 use mathlib.Core.List.{[], _∷_}
@@ -46,8 +46,7 @@ use Rattle.clock.proofs.tick as tick
 use Rattle.clock.proofs.tick.Symbol as tick-def
 use Rattle.clock.proofs.tick.Symbol.{name as #tick}
 use Rattle.clock.proofs.tick.Met as tick-thm
-use Rattle.heukelvos.specs.Lent.{Kept}
-use Rattle.heukelvos.proofs.Kept.{tick-kept}
+use Rattle.heukelvos.proofs.Kept.{kept, tick-same}
 use Rattle.heukelvos.proofs.InPlace.{value, IsClock, is-value, opened, handed-back, answered, stored-if, either-clock, as-answered, Left, ends, meets}
 use Rattle.heukelvos.proofs.lent.heukelvos_tick.Key.{name as #this}
 use Rattle.heukelvos.proofs.lent.heukelvos_tick as f
@@ -60,8 +59,8 @@ in-clock r v is = L.owed R.the-type R′.the-laws r (v ∷ []) is .1 .0
 in-answer : (r : Outcome) (v : Val) → Is R.the-row r (v ∷ []) → r .refusal < 2 ^ 8
 in-answer r v is = L.owed R.the-type R′.the-laws r (v ∷ []) is .0 .1
 
-as-it-was : (h : Clock) (r : Outcome) → r ≡ tickOf h → Kept (r .refusal) h (r .clock)
-as-it-was h r e = subst (λ (t : Outcome). Kept (t .refusal) h (t .clock)) (sym e) (tick-kept h)
+as-it-was : (h : Clock) (r : Outcome) → r ≡ tickOf h → eqb (r .refusal) 0 ≡ false → r .clock ≡ h
+as-it-was h r e = subst (λ (t : Outcome). eqb (t .refusal) 0 ≡ false → t .clock ≡ h) (sym e) (tick-same h)
 
 -- what the lent clock then holds
 abbrev held : Clock → Outcome → Clock
@@ -83,7 +82,7 @@ module _ {M : Type 1} (𝓤 : URA M) (H : Heap 𝓤) (A : Atoms 𝓤) (W : Given
   exits r e fits =
       let p : held h r ≡ r .clock = as-answered (eqb (r .refusal) 0) h (r .clock) (as-it-was h r e) in
       ends 𝓤 H A W [] tt u8 (f.clauses 𝓤 H A at-mem run) κ q b o γ h tt tt tt tt (r .refusal) (vint w8 (r .refusal)) (held h r) (uint-makes 𝓤 H A W w8 (r .refusal) _ (refl, fits))
-      (factI 𝓤 _ (emp 𝓤) (ap (λ (t : Outcome). t .refusal) e, p ∙ ap (λ (t : Outcome). t .clock) e, λ refused. p ∙ as-it-was h r e refused))
+      (factI 𝓤 _ (emp 𝓤) (ap (λ (t : Outcome). t .refusal) e, p ∙ ap (λ (t : Outcome). t .clock) e, kept (r .refusal) h (held h r) (λ refused. p ∙ as-it-was h r e refused)))
 
   abbrev to-tick : Tick 𝓤 H A at-mem run .Ghost
   to-tick = ((tt, tt, tt, (h, tt), (value h ∷ [], tt)), tt)
