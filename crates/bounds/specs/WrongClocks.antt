@@ -1,5 +1,6 @@
 -- Clocks that document 01 shuts out by name: "a clock that refuses everything, and a reading that is always zero [..]; a tick that does
--- nothing [..]; a rollover that pays the first share and later only pretends". For each, a list of calls at which demand 3 would fail.
+-- nothing [..]; a rollover that pays the first share and later only pretends". And one whose catch-up counts its ticks and does not make
+-- them. For each, a list of events at which demand 3 would fail.
 use Prim.Native.Nat.{_%_}
 use mathlib.Core.Bool.{Bool, false, not, _&&_, cond}
 use mathlib.Core.List.{List, [], _∷_}
