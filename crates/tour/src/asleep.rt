@@ -1,4 +1,5 @@
 // A recorder that sleeps makes up for the ticks that it has missed before it stamps the next frame: up to 65,536 in one call, 256 s.
+ghost use Prim.Native.Nat.{_≤_};
 use crate::show::show_clock;
 use crate::show::show_count;
 use crate::show::show_refusal;
@@ -36,22 +37,19 @@ pub(crate) fn night_asleep(c: Clock) {
     show_clock(b"  which gives", morning.clock);
 }
 
-// One call. What is left is counted by what the answer says was made, and not by what was asked for.
+// What one call may be asked for.
+fn ceiling_of(due: u64) -> u64
+    ensures { λ r. ⌜ r ≤ due ⌝ }
+{
+    if due < MAX_CEILING { due } else { MAX_CEILING }
+}
+
+// One call. What is left is counted by what the answer says was made, and not by what was asked for: the count is never above the ceiling.
 fn catch_up_once(b: Behind) -> Behind {
-    let ceiling = if b.due < MAX_CEILING {
-        b.due
-    } else {
-        MAX_CEILING
-    };
-    let made = clock::catch_up(b.clock, ceiling, false);
-    let due = if made.count < b.due {
-        b.due - made.count
-    } else {
-        0
-    };
+    let made = clock::catch_up(b.clock, ceiling_of(b.due), false);
     let clock = made.clock;
     Behind {
-        due: due,
+        due: b.due - made.count,
         clock: clock,
     }
 }
