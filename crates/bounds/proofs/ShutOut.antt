@@ -1,4 +1,4 @@
--- The clocks that document 01 shuts out by name do not meet demand 3: each fails a bound, computed.
+-- The wrong clocks do not meet demand 3: each fails a bound, computed.
 use mathlib.Core.Path.{_≡_, refl}
 use mathlib.Core.Bool.{false}
 use mathlib.Core.List.{[], _∷_}

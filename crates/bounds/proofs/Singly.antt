@@ -3,7 +3,7 @@ use mathlib.Core.Path.{_≡_, refl, sym, _∙_, ap, subst}
 use mathlib.Core.List.{List, [], _∷_, _++_, append-assoc, append-nil}
 use Rattle.clock.specs.State.{freshClock}
 use Rattle.clock.specs.declared.state.Clock.{Clock}
-use Rattle.event.specs.Event.{callOf, stepOf}
+use Rattle.event.specs.Event.{answerOf, stepOf}
 use Rattle.event.specs.declared.event.Call as call
 use Rattle.event.specs.declared.event.Event.{Event}
 use Rattle.bounds.specs.Calls.{afterBy, after, clockAfter}
@@ -20,7 +20,7 @@ after-singly c [] = refl
 after-singly c (e ∷ es) =
     after-singly (stepOf c e .clock) es
     ∙ ap (λ (d : Clock). after d (singlyFrom (stepOf c e .clock) es)) (clock-singly c e)
-    ∙ sym (after-append callOf c (singleCalls c e) (singlyFrom (stepOf c e .clock) es))
+    ∙ sym (after-append answerOf c (singleCalls c e) (singlyFrom (stepOf c e .clock) es))
 
 pub singly-append : (c : Clock) (xs ys : List Event) → singlyFrom c (xs ++ ys) ≡ singlyFrom c xs ++ singlyFrom (afterBy stepOf c xs) ys
 unfolding afterBy singlyFrom

@@ -13,7 +13,7 @@ use Rattle.clock.specs.declared.state.Clock.{Clock}
 use Rattle.clock.specs.declared.run.CaughtUp.{CaughtUp}
 use Rattle.clock.proofs.TickCases.{TickCase, out, last, plain, rolls, tickCase}
 use Rattle.clock.proofs.RunLaws.{ticked-in-range}
-use Rattle.event.specs.Event.{callOf, stepMany, stepOf}
+use Rattle.event.specs.Event.{answerOf, stepMany, stepOf}
 use Rattle.event.specs.declared.event.Call.the-variants.{Tick}
 use Rattle.event.specs.declared.event.Event.{Event}
 use Rattle.event.specs.declared.event.Event.the-variants.{Call, CatchUp}
@@ -50,8 +50,8 @@ module _ (stop : Bool) where
 
   module _ (c : Clock) where
     -- what holds of the first tick and of those after it holds of all
-    accepted-all : (m : ℕ) → tickOf c .refusal ≡ 0 → ((j : ℕ) → j < m → callOf (after (tickOf c .clock) (singleTicks j)) Tick .refusal ≡ 0)
-        → (j : ℕ) → j < suc m → callOf (after c (singleTicks j)) Tick .refusal ≡ 0
+    accepted-all : (m : ℕ) → tickOf c .refusal ≡ 0 → ((j : ℕ) → j < m → answerOf (after (tickOf c .clock) (singleTicks j)) Tick .refusal ≡ 0)
+        → (j : ℕ) → j < suc m → answerOf (after c (singleTicks j)) Tick .refusal ≡ 0
     unfolding afterBy singleTicks
     accepted-all m z f zero h = z
     accepted-all m z f (suc j) h = f j (omega (arith, h))

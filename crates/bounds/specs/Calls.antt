@@ -7,7 +7,7 @@ use Rattle.clock.specs.State.{freshClock}
 use Rattle.clock.specs.Rollover.{inserts, deletes}
 use Rattle.clock.specs.Tick.{rollsOver}
 use Rattle.clock.specs.declared.state.Clock.{Clock}
-use Rattle.event.specs.Event.{callOf, stepOf}
+use Rattle.event.specs.Event.{answerOf, stepOf}
 use Rattle.event.specs.declared.event.Call.{Call}
 use Rattle.event.specs.declared.event.Call.the-variants.{Tick, Setting, Request, Reading}
 use Rattle.event.specs.declared.event.Event.{Event}
@@ -32,14 +32,14 @@ clockAfter events = clockBy stepOf events
 
 -- Single calls, by the rules.
 abbrev pub next : Clock → Call → Clock
-next c e = callOf c e .clock
+next c e = answerOf c e .clock
 
 abbrev pub after : Clock → List Call → Clock
-after c es = afterBy callOf c es
+after c es = afterBy answerOf c es
 
 -- whether c accepts the call
 abbrev pub accepted : Clock → Call → Bool
-accepted c e = eqb (callOf c e .refusal) 0
+accepted c e = eqb (answerOf c e .refusal) 0
 
 abbrev pub isTick : Call → Bool
 isTick Tick = true

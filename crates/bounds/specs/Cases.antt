@@ -13,7 +13,7 @@ use Rattle.clock.specs.State.{freshClock, errorsOf, whole, statusOk, statusIns,
 use Rattle.clock.specs.Tick.{carry, rollsOver}
 use Rattle.clock.specs.declared.state.Clock.{Clock}
 use Rattle.request.specs.Request.{modeBits}
-use Rattle.event.specs.Event.{callOf as answerOf}
+use Rattle.event.specs.Event.{answerOf}
 use Rattle.event.specs.declared.event.Call.{Call}
 use Rattle.event.specs.declared.event.Call.the-variants as call
 use Rattle.bounds.specs.Calls.{next}

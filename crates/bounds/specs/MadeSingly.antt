@@ -6,7 +6,7 @@ use mathlib.Core.List.{List, [], _∷_, _++_}
 use Rattle.clock.specs.State.{freshClock}
 use Rattle.clock.specs.Tick.{rollsOver}
 use Rattle.clock.specs.declared.state.Clock.{Clock}
-use Rattle.event.specs.Event.{callOf, stepOf}
+use Rattle.event.specs.Event.{answerOf, stepOf}
 use Rattle.event.specs.declared.event.Call.the-variants.{Tick}
 use Rattle.event.specs.declared.event.Event.{Event}
 use Rattle.event.specs.declared.event.Event.the-variants.{Call, CatchUp}
@@ -22,14 +22,14 @@ pub data EndsAt (c : Clock) (ceiling : ℕ) (stop : Bool) (a : Stepped) : Type 0
   atCeiling : a .count ≡ ceiling → a .«tick_refusal» ≡ 0 → EndsAt c ceiling stop a
   atRollover : stop ≡ true → (last : ℕ) → a .count ≡ suc last → rollsOver (after c (singleTicks last)) ≡ true → a .«tick_refusal» ≡ 0
       → EndsAt c ceiling stop a
-  atRefusal : a .count < ceiling → callOf (a .clock) Tick .refusal ≡ 3 → a .«tick_refusal» ≡ 3 → EndsAt c ceiling stop a
+  atRefusal : a .count < ceiling → answerOf (a .clock) Tick .refusal ≡ 3 → a .«tick_refusal» ≡ 3 → EndsAt c ceiling stop a
 
 -- an accepted catch-up that answers a, by the single ticks in its place, the first of which gets c
 pub record Ticked (c : Clock) (ceiling : ℕ) (stop : Bool) (a : Stepped) : Type 0 where
   -- its clock is the one after them
   pub clock : a .clock ≡ after c (singleTicks (a .count))
   -- they are accepted, each of them
-  pub accepted : (j : ℕ) → j < a .count → callOf (after c (singleTicks j)) Tick .refusal ≡ 0
+  pub accepted : (j : ℕ) → j < a .count → answerOf (after c (singleTicks j)) Tick .refusal ≡ 0
   -- none is made past the ceiling, nor after a rollover to stop at
   pub most : a .count ≤ ceiling
   pub onward : (j : ℕ) → suc j < a .count → (stop && rollsOver (after c (singleTicks j))) ≡ false
@@ -43,7 +43,7 @@ pub record Untouched (c : Clock) (a : Stepped) : Type 0 where
 
 -- the answer of an event that gets `got`, where its single calls get c
 abbrev pub AnswersAs : Clock → Clock → Event → Type 0
-AnswersAs got c (Call e) = stepOf got (Call e) ≡ callOf c e
+AnswersAs got c (Call e) = stepOf got (Call e) ≡ answerOf c e
 AnswersAs got c (CatchUp ceiling stop) =
     let a = stepOf got (CatchUp ceiling stop) in
     (a .refusal ≡ 0 → Ticked c ceiling stop a) × ((a .refusal ≡ 0 → ⊥) → Untouched c a)

@@ -1,5 +1,6 @@
 -- Clocks that document 01 shuts out by name: "a clock that refuses everything, and a reading that is always zero [..]; a tick that does
--- nothing [..]; a rollover that pays the first share and later only pretends". For each, a list of calls at which demand 3 would fail.
+-- nothing [..]; a rollover that pays the first share and later only pretends". And one whose catch-up counts its ticks and does not make
+-- them. For each, a list of events at which demand 3 would fail.
 use Prim.Native.Nat.{_%_}
 use mathlib.Core.Bool.{Bool, false, not, _&&_, cond}
 use mathlib.Core.List.{List, [], _∷_}
@@ -85,7 +86,7 @@ abbrev pub pretence : List Event
 pretence = Call (set 0 999999) ∷ Call (asks (pos 127999)) ∷ asEvents (singleTicks 262)
 
 -- None of them meets demand 3: a clock that refuses everything and a reading that is always zero are not near the exact time after a tick, "a tick
--- that does nothing (.. 3's forward bound)", "a rollover that pays the first share and later only pretends (.. 3's first bound, whose
+-- that does nothing ([..] 3's forward bound)", "a rollover that pays the first share and later only pretends ([..] 3's first bound, whose
 -- exact time counts every share)". Nor does one whose catch-up only counts, by the forward bound again.
 pub record ShutOut : Type 0 where
   pub refusing : NearExact (toldAfter refusesEverything (Call Tick ∷ [])) (bookOf (Call Tick ∷ [])) → ⊥

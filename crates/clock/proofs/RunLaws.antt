@@ -7,7 +7,7 @@ use lib.Dec.{eqb}
 use borrow.Author.Tests.{lt-leb, ne-eqb, eqb-true}
 use Rattle.clock.specs.State.{inRange}
 use Rattle.clock.specs.Tick.{moved, microsGrown, rollsOver, tickOf, tickRefusal, ticked}
-use Rattle.clock.specs.Ticks.{ended, oneMore, ranOf, ticksOf}
+use Rattle.clock.specs.Ticks.{ended, oneMore, ranOf, catchUpRefusal, catchUpOf, ticksOf}
 use Rattle.clock.specs.Inner.{Within, advanceOf, jumpOf, adds, endsWith, TurnOf}
 use Rattle.clock.specs.declared.state.Clock.{Clock}
 use Rattle.clock.specs.declared.outcome.Outcome.{Outcome}
@@ -206,6 +206,27 @@ turn-some stop n c t k e = k .some (accepted stop t (eqb (t .refusal) 0) refl e)
 pub run-none : (stop : Bool) (n : ℕ) (c : Clock) → n ≤ 0 → ranOf stop n c ≡ ended 0 c
 unfolding ranOf
 run-none stop n c h = let e : n ≡ 0 = omega (arith, h) in rw e
+
+-- No more ticks are accepted than the ceiling.
+one-tick-most : (accepted stops : Bool) (n k : ℕ) (c d : Clock) (r : CaughtUp) → r .count ≤ n
+    → cond accepted (oneMore (cond stops (ended 0 d) r)) (ended k c) .count ≤ suc n
+one-tick-most true true n k c d r h = omega arith
+one-tick-most true false n k c d r h = omega (arith, h)
+one-tick-most false stops n k c d r h = omega arith
+
+run-most : (stop : Bool) (n : ℕ) (c : Clock) → ranOf stop n c .count ≤ n
+unfolding ranOf
+run-most stop zero c = omega arith
+run-most stop (suc n) c =
+    one-tick-most (eqb (tickOf c .refusal) 0) (stop && rollsOver c) n (tickOf c .refusal) c (tickOf c .clock) (ranOf stop n (tickOf c .clock)) (run-most stop n (tickOf c .clock))
+
+by-refusal : (c : Clock) (n : ℕ) (stop b : Bool) → eqb (catchUpRefusal c n) 0 ≡ b → catchUpOf c n stop .count ≤ n
+unfolding catchUpOf
+by-refusal c n stop true e = rw e (run-most stop n c)
+by-refusal c n stop false e = rw e (omega arith)
+
+pub catch-up-most : (c : Clock) (n : ℕ) (stop : Bool) {r : CaughtUp} → r ≡ catchUpOf c n stop → r .count ≤ n
+catch-up-most c n stop e = rw e (by-refusal c n stop (eqb (catchUpRefusal c n) 0) refl)
 
 -- Many ticks one after the other, for who counts them singly.
 pub ticks-none : (c : Clock) → inRange c ≡ true → ticksOf 0 c ≡ record { refusal = 0; clock = c }

@@ -19,7 +19,7 @@ abbrev pub oneMore : CaughtUp → CaughtUp
 oneMore r = record { refusal = r .refusal; count = suc (r .count); «tick_refusal» = r .«tick_refusal»; clock = r .clock }
 
 -- "It answers how many ticks were accepted, and state and count equal those of ticking one by one until ceiling, rollover or first
--- refusal. A tick's refusal 3 is answered beside the count, the accepted ticks stand." Up to n single ticks of c; where `stop`, none
+-- refusal. A tick's refusal 3 is answered beside the count, the accepted ticks stand". Up to n single ticks of c; where `stop`, none
 -- after a tick that rolls the second over. The ceiling is looked at before the tick.
 unfoldable pub ranOf : (stop : Bool) → ℕ → Clock → CaughtUp
 ranOf stop zero c = ended 0 c

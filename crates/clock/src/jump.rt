@@ -1,5 +1,4 @@
-// The ticks of a second in one step. Between rollovers the adjustment is constant, so that j ticks add j adjustments to the phase, and
-// one division carries the whole microseconds in it.
+// Ticks of one second in one step, by a product and a division: specs/Inner.antt.
 ghost use mathlib.Core.Path.{_≡_};
 ghost use mathlib.Core.Bool.{true};
 ghost use Prim.Native.Nat.{_+_, _-_, _*_, _≤_, _<_};

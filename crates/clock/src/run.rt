@@ -1,4 +1,4 @@
-// A run of ticks, by turns: each goes up to the end of the second in one step.
+// A run of ticks, by turns: each goes in one step as far as the second is sure to last, and by the tick after it.
 ghost use mathlib.Core.Path.{_≡_};
 ghost use mathlib.Core.Bool.{true};
 ghost use Prim.Native.Nat.{_<_};

@@ -1,5 +1,6 @@
 // Many ticks in one call.
 ghost use mathlib.Core.Path.{_≡_};
+ghost use Prim.Native.Nat.{_≤_};
 ghost use Rattle.clock.specs.Ticks.{catchUpOf, greatestCeiling, refusedWith, ticksOf};
 use crate::outcome::Outcome;
 use crate::run::CaughtUp;
@@ -21,9 +22,11 @@ fn refused(c: Clock, refusal: u8) -> CaughtUp
     }
 }
 
-// Up to `ceiling` ticks, to the first that is refused; where `stop`, to the tick that rolls the second over.
+// Up to `ceiling` ticks, to the first that is refused; where `stop`, to the tick that rolls the second over. That no more are accepted follows
+// from the definition, and is promised for a caller who counts down what is left.
 pub fn catch_up(c: Clock, ceiling: u64, stop: bool) -> CaughtUp
     ensures { λ r. ⌜ r ≡ catchUpOf c ceiling stop ⌝ }
+    ensures { λ r. ⌜ r .count ≤ ceiling ⌝ }
     ensures { λ _. do ⌜ (← ⟦MAX_CEILING⟧ .entry) ≡ greatestCeiling ⌝ }
 {
     if !in_range(c) {

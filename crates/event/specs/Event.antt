@@ -27,13 +27,13 @@ abbrev pub stepMany : CaughtUp → Stepped
 stepMany m = record { refusal = m .refusal; count = m .count; «tick_refusal» = m .«tick_refusal»; clock = m .clock; reading = noReading }
 
 -- a single call
-abbrev pub callOf : Clock → Call → Stepped
-callOf c Tick = stepWith (tickOf c)
-callOf c (Setting s u) = stepWith (settingOf c s u)
-callOf c (Request r) = stepWith (requestOf c r)
-callOf c Reading = stepTold c (readingOf c)
+abbrev pub answerOf : Clock → Call → Stepped
+answerOf c Tick = stepWith (tickOf c)
+answerOf c (Setting s u) = stepWith (settingOf c s u)
+answerOf c (Request r) = stepWith (requestOf c r)
+answerOf c Reading = stepTold c (readingOf c)
 
--- The step of a list of events.
+-- An event: a single call, or a catch-up.
 abbrev pub stepOf : Clock → Event → Stepped
-stepOf c (event.Call k) = callOf c k
+stepOf c (event.Call k) = answerOf c k
 stepOf c (event.CatchUp ceiling stop) = stepMany (catchUpOf c ceiling stop)

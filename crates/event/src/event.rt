@@ -1,5 +1,5 @@
 ghost use mathlib.Core.Path.{_≡_};
-ghost use Rattle.event.specs.Event.{stepWith, stepMany, callOf, stepOf};
+ghost use Rattle.event.specs.Event.{stepWith, stepMany, answerOf, stepOf};
 use clock::AskedMicros;
 use clock::CaughtUp;
 use clock::Clock;
@@ -79,7 +79,7 @@ fn step_many(m: CaughtUp) -> Stepped
 }
 
 fn step_call(c: Clock, call: Call) -> Stepped
-    ensures { λ r. ⌜ r ≡ callOf c call ⌝ }
+    ensures { λ r. ⌜ r ≡ answerOf c call ⌝ }
 {
     match call {
         Call::Tick => step_with(tick(c)),

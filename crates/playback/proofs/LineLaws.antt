@@ -12,7 +12,7 @@ use Rattle.clock.specs.Reading.{readingOf, readingRefusal}
 use Rattle.clock.specs.Refusal.{refuse}
 use Rattle.clock.specs.declared.state.Clock.{Clock}
 use Rattle.clock.proofs.Ok.{ok}
-use Rattle.event.specs.Event.{callOf}
+use Rattle.event.specs.Event.{answerOf}
 use Rattle.label.specs.Label.{digit, isSixty, clockLabel}
 use Rattle.label.specs.Writing.{writeRefusal, writtenTo}
 use Rattle.label.proofs.Room.{twenty}
@@ -74,7 +74,7 @@ accepted : (b : Bool) → refuse (not b) 1 0 ≡ 0 → b ≡ true
 accepted true e = refl
 accepted false e = absurd (omega (arith, e))
 
-pub reading-sound : (c : Clock) (e : call.Call) → isReading e ≡ true → callOf c e .refusal ≡ 0 → inRange c ≡ true
+pub reading-sound : (c : Clock) (e : call.Call) → isReading e ≡ true → answerOf c e .refusal ≡ 0 → inRange c ≡ true
 unfolding readingOf readingRefusal
 reading-sound c Tick t z = absurd (let w : _≡_ {A = ℕ} 0 1 = cc in omega arith)
 reading-sound c (Setting s u) t z = absurd (let w : _≡_ {A = ℕ} 0 1 = cc in omega arith)
@@ -102,10 +102,10 @@ module _ (c : Clock) (e : call.Call) where
   by-reading false true line p t = sym p
   by-reading false false line p t = refl
 
-  pub line-print : isReading e ≡ true → callOf c e .refusal ≡ 0 → printLine c ≡ lineOf c (Call e)
+  pub line-print : isReading e ≡ true → answerOf c e .refusal ≡ 0 → printLine c ≡ lineOf c (Call e)
   unfolding lineOf outcomeOf printed
   line-print t z = simp (eq-eqb _ _ z) (sym (by-call c e ∙ simp t))
 
-  pub line-call : (isReading e && eqb (callOf c e .refusal) 0) ≡ false → refusalLine (callOf c e .refusal) ≡ lineOf c (Call e)
+  pub line-call : (isReading e && eqb (answerOf c e .refusal) 0) ≡ false → refusalLine (answerOf c e .refusal) ≡ lineOf c (Call e)
   unfolding refusalLine lineOf outcomeOf printed
-  line-call t = by-reading (isReading e) (eqb (callOf c e .refusal) 0) _ (by-call c e) t
+  line-call t = by-reading (isReading e) (eqb (answerOf c e .refusal) 0) _ (by-call c e) t

@@ -5,7 +5,7 @@ use Prim.Native.Nat.{ℕ}
 use lib.Dec.{eqb}
 use Rattle.clock.specs.declared.state.Clock.{Clock}
 use Rattle.clock.specs.declared.outcome.Outcome.{Outcome}
-use Rattle.event.specs.Event.{callOf}
+use Rattle.event.specs.Event.{answerOf}
 use Rattle.event.specs.declared.event.Call as call
 use Rattle.event.specs.declared.event.Call.the-variants.{Tick, Setting, Request, Reading}
 use Rattle.event.specs.declared.event.Stepped.{Stepped}
@@ -21,7 +21,7 @@ outcomeWith a = record { refusal = a .refusal; clock = a .clock }
 -- the refusal of an event, or 0, and the clock after it
 unfoldable pub outcomeOf : Clock → Event → Outcome
 outcomeOf c (Ticks n) = ticksOf n c
-outcomeOf c (Call e) = outcomeWith (callOf c e)
+outcomeOf c (Call e) = outcomeWith (answerOf c e)
 
 -- what an accepted call prints: nothing, but for a reading, which is the history's print
 unfoldable pub printedBy : Clock → call.Call → List ℕ

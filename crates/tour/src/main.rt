@@ -1,9 +1,13 @@
 // A tour of the clock, with a line of output for each step. A clock is a value: a call takes one and hands back the next, and refusal 0.
 // A call that is refused hands back the clock that it got, and the number of its refusal.
+mod asleep;
+mod show;
+
+use crate::show::show_clock;
+use crate::show::show_refusal;
 use clock::AskedMicros;
 use clock::Clock;
 use clock::FREQUENCY_PER_PPM;
-use libc::STDOUT_FILENO;
 use request::ADJ_FREQUENCY;
 use request::ADJ_OFFSET;
 use request::AskedFrequency;
@@ -48,6 +52,11 @@ fn main() {
     let second = clock::run_ticks(first.clock, TICKS);
     show_clock(b"another 256 ticks later", second.clock);
 
+    // Many ticks in one call, for a recorder that has slept. A clock is a value: each of these begins with the same one.
+    asleep::to_the_next_second(second.clock);
+    asleep::night_asleep(second.clock);
+    asleep::into_the_last_second(second.clock);
+    asleep::too_many_at_once(second.clock);
     save_and_restore(second.clock);
 }
 
@@ -76,41 +85,4 @@ fn restore(what: &[u8], bytes: &[u8]) {
     let restored = record::read(bytes);
     show_refusal(what, restored.refusal);
     show_clock(b"  which gives", restored.clock);
-}
-
-// A clock's label, and what a reading tells: the microseconds of the second, and the status.
-fn show_clock(what: &[u8], c: Clock) {
-    let mut text = [0u8; 20];
-    label::write(c, &mut text);
-    say(what);
-    say(b": ");
-    say(&text);
-    let told = clock::read(c);
-    say(b" and ");
-    io::print_decimal(STDOUT_FILENO, told.reading.micros.0 as u64);
-    say(b" us, status ");
-    io::print_decimal(STDOUT_FILENO, told.reading.status as u64);
-    say(b"\n");
-}
-
-// A refusal by its number, with a word on those that reading a record can give.
-fn show_refusal(what: &[u8], n: u8) {
-    say(what);
-    if n == 0 {
-        say(b": accepted\n");
-        return;
-    }
-    say(b": refused with ");
-    io::print_decimal(STDOUT_FILENO, n as u64);
-    match n {
-        10 => say(b", the bytes end inside the record\n"),
-        11 => say(b", a number is not in its shortest form\n"),
-        12 => say(b", the version is unknown or a field out of its range\n"),
-        13 => say(b", bytes follow the record\n"),
-        _ => say(b"\n"),
-    }
-}
-
-fn say(text: &[u8]) {
-    io::write_all(STDOUT_FILENO, text);
 }

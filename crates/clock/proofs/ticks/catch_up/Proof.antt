@@ -5,7 +5,8 @@ use native.Mathlib.Omega.{arith}
 use borrow.Author.Needs.{needs}
 use borrow.Author.Tests.{not-true, not-false, lt-ltb, le-ltb}
 use Rattle.clock.specs.State.{inRange}
-use Rattle.clock.specs.Ticks.{catchUpOf}
+use Rattle.clock.specs.Ticks.{ranOf, refusedWith, catchUpOf}
+use Rattle.clock.proofs.RunLaws.{catch-up-most}
 use Rattle.clock.proofs.ticks.catch_up.Statement.{statement}
 use Rattle.clock.proofs.ticks.catch_up.Tie as tie
 
@@ -20,7 +21,11 @@ refused-requires c κs = search needs
 
 returns : tie.Need-returns
 unfolding catchUpOf
-returns c = (c .refused .ensures ∙ simp (sym (c .before .before .in-range .ensures) ∙ not-true _ (c .before .if1 .taken)), refl)
+returns c =
+    let a = c .before .before .before .args in
+    let h : refusedWith 1 (a .c) ≡ catchUpOf (a .c) (a .ceiling) (a .stop) = simp (sym (c .before .before .in-range .ensures) ∙ not-true _ (c .before .if1 .taken)) in
+    let e = c .refused .ensures ∙ h in
+    (e, (catch-up-most (a .c) (a .ceiling) (a .stop) e, refl))
 
 refused-requires-2 : tie.Need-refused-requires-2
 refused-requires-2 c κs = search needs
@@ -28,8 +33,11 @@ refused-requires-2 c κs = search needs
 returns-2 : tie.Need-returns-2
 unfolding catchUpOf
 returns-2 c =
-    let e = c .before .before in
-    (c .refused2 .ensures ∙ simp (inside e, lt-ltb 65536 (e .before .before .args .ceiling) (omega (arith, c .before .if2 .taken))), refl)
+    let i = c .before .before in
+    let a = i .before .before .args in
+    let h : refusedWith 16 (a .c) ≡ catchUpOf (a .c) (a .ceiling) (a .stop) = simp (inside i, lt-ltb 65536 (a .ceiling) (omega (arith, c .before .if2 .taken))) in
+    let e = c .refused2 .ensures ∙ h in
+    (e, (catch-up-most (a .c) (a .ceiling) (a .stop) e, refl))
 
 run-requires : tie.Need-run-requires
 run-requires c κs = inside (c .before)
@@ -37,8 +45,11 @@ run-requires c κs = inside (c .before)
 returns-3 : tie.Need-returns-3
 unfolding catchUpOf
 returns-3 c =
-    let e = c .before in
-    (c .run .ensures ∙ simp (inside (e .before), le-ltb 65536 (e .before .before .before .args .ceiling) (omega (arith, e .if2 .left))), refl)
+    let i = c .before .before in
+    let a = i .before .before .args in
+    let h : ranOf (a .stop) (a .ceiling) (a .c) ≡ catchUpOf (a .c) (a .ceiling) (a .stop) = simp (inside i, le-ltb 65536 (a .ceiling) (omega (arith, c .before .if2 .left))) in
+    let e = c .run .ensures ∙ h in
+    (e, (catch-up-most (a .c) (a .ceiling) (a .stop) e, refl))
 
 pub catch-up-spec : {M : Type 1} → statement M
 catch-up-spec =

@@ -4,7 +4,7 @@ use mathlib.Core.Bool.{true}
 use native.Mathlib.Omega.{arith}
 use lib.Dec.{eqb}
 use borrow.Author.Tests.{eqb-true}
-use Rattle.event.specs.Event.{callOf}
+use Rattle.event.specs.Event.{answerOf}
 use Rattle.event.specs.declared.event.Stepped.{Stepped}
 use Rattle.integers.proofs.Ranges.{and-true}
 use Rattle.playback.specs.Event.{outcomeOf}
@@ -17,7 +17,7 @@ use Rattle.playback.proofs.run.run_call.Tie as tie
 
 -- the call is a reading, and it was accepted
 accepted : (c : tie.Then1) → let s = c .before .before .before .before .before in
-    (isReading (s .args .call) ≡ true) × (callOf (s .args .c) (s .args .call) .refusal ≡ 0)
+    (isReading (s .args .call) ≡ true) × (answerOf (s .args .c) (s .args .call) .refusal ≡ 0)
 accepted c =
     let o = c .before .before .before .step in
     let t = and-true (c .before .is-reading .result) (eqb (o .result .refusal) 0) (c .if1 .taken) in
