@@ -277,6 +277,23 @@ static uint64_t draw(uint64_t below)
 	return drawn % below;
 }
 
+/* A clock with any 32 bits in one field: mostly one that is not sound. */
+static Clock spoilt(Clock c)
+{
+	uint32_t any = draw(UINT64_C(1) << 32);
+	switch (draw(8)) {
+	case 0: c.micros = any; break;
+	case 1: c.phase = (int32_t)any; break;
+	case 2: c.offset = (int32_t)any; break;
+	case 3: c.frequency = (int32_t)any; break;
+	case 4: c.adjustment = (int32_t)any; break;
+	case 5: c.updated = any % 4; break;
+	case 6: c.maxerror = any; break;
+	default: c.status = any % 8; break;
+	}
+	return c;
+}
+
 static bool random_runs(void)
 {
 	bool right = true;
@@ -286,8 +303,8 @@ static bool random_runs(void)
 		                   (int64_t)draw(2 * HEUKELVOS_MAX_OFFSET_MICROS + 1) - HEUKELVOS_MAX_OFFSET_MICROS, draw(5), draw(5));
 		if (draw(2))
 			c = heukelvos_caught_up(c, draw(1000), false).clock;
-		if (draw(16) == 0)
-			c.phase = (int32_t)draw(UINT64_C(1) << 32);
+		if (draw(8) == 0)
+			c = spoilt(c);
 		right = catches_up(c, draw(20) ? draw(1500) : draw(70000), draw(2));
 	}
 	return right;
