@@ -4,8 +4,8 @@
  *     rt staticlib heukelvos
  *     gcc -Ic program.c target/staticlib/libheukelvos.a
  *
- * x86-64 Linux, C99 or later, or C++. The library has no data of its own, allocates nothing, keeps nothing between two calls, and calls
- * memcpy alone, so that a timer handler may call it, and several clocks may be used at once.
+ * x86-64 Linux, C99 or later, or C++. The library has no data that change, allocates nothing, keeps nothing between two calls, and calls
+ * nothing (but memcpy, should the compiler want it), so that a timer handler may call it, and several clocks may be used at once.
  *
  * Every call takes any values: a clock that is not sound, or an argument out of its range, gets its refusal number, and nothing is changed.
  * The lowest number that applies is given. What C itself must see to:

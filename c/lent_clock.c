@@ -297,7 +297,7 @@ static Clock spoilt(Clock c)
 static bool random_runs(void)
 {
 	bool right = true;
-	for (int n = 0; n < 20000 && right; n++) {
+	for (int n = 0; n < 200000 && right; n++) {
 		Clock c = adjusted(draw(3) ? draw(UINT64_C(1) << 32) : HEUKELVOS_LAST_SECOND - draw(3), draw(1000000),
 		                   (int64_t)draw(UINT64_C(2) * HEUKELVOS_MAX_FREQUENCY - 1) - HEUKELVOS_MAX_FREQUENCY + 1,
 		                   (int64_t)draw(2 * HEUKELVOS_MAX_OFFSET_MICROS + 1) - HEUKELVOS_MAX_OFFSET_MICROS, draw(5), draw(5));
@@ -432,7 +432,7 @@ int main(int argc, char **argv)
 	check("a million ticks in place, and by value", million_ticks());
 	check("ticks that are refused", refused_ticks());
 	check("catch-ups at their edges: lent, by value, by single ticks", edges());
-	check("catch-ups of random clocks: lent, by value, by single ticks", random_runs());
+	check("200,000 catch-ups of random clocks: lent, by value, by single ticks", random_runs());
 	check("requests", requests());
 	check("settings, readings, labels", other_calls());
 	return failed != 0;

@@ -44,6 +44,13 @@ built() {
     gcc -std=c11 -O2 -Wall -Wextra -Wpedantic -Werror -Ic -o "$work/lent_clock" c/lent_clock.c "$library"
 }
 
+# It keeps nothing between two calls, and calls nothing: the compiler may want memcpy and the like.
+stands_alone() {
+    nm "$library" >"$work/symbols" || return 1
+    grep -q ' T heukelvos_tick$' "$work/symbols" || { echo "it has no heukelvos_tick"; return 1; }
+    ! grep -E ' [BCDGSbdgs] | U ' "$work/symbols" | grep -vE ' U mem(cpy|move|set)$'
+}
+
 nothing_wrong() {
     status_of "$work/lent_clock"
     told=$(grep -c ': as it should be$' "$work/out")
@@ -71,6 +78,7 @@ else
         pass_over "the header in C++" "g++ is not on this machine"
     fi
     tell "the program in C is built" built
+    tell "the library stands alone" stands_alone
     tell "the program in C finds nothing wrong" nothing_wrong
     tell "the program in C ends as the replay of its history" ends_as_the_replay
 fi
