@@ -10,7 +10,7 @@ use mir.Syntax.{Body as Code, Fn, Opd as Operand, Place, assign, cond as branch,
 use mir.Val.{Val, vbool, vptr}
 use base.Logic.{SProp, ent, sep, emp, via, id⊢, emp∗}
 use base.Stored.{Gv}
-use base.Fml.{GName, Lft, Share, ftrue, flft, fobs, fauth, fbor, fobor}
+use base.Fml.{Fml, GName, Lft, Share, ftrue, flft, fobs, fauth, fbor, fobor}
 use prog.Wp.{Calls, Env, Heap, Loops, Tables, WpFn}
 use sound.WpLaws.{WpFn-mono}
 use ghost.Atoms.{Atoms, sem}
@@ -45,6 +45,10 @@ value h = L.val T.the-type T′.the-laws h
 abbrev pub IsClock : Clock → Type 0
 IsClock h = Is T.the-row h (value h ∷ [])
 
+-- it lies in memory
+abbrev cell : Clock → ℕ → ℕ → Fml
+cell h b o = cellAt fullShare (T.the-row .mir) (value h ∷ []) b o
+
 -- a struct's machine value, from what is owned of it
 pub is-value : (R : Declared) (R′ : L.Laws R) (r : R .D) (v : Val) → Is (row R) r (v ∷ []) → v ≡ L.val R R′ r
 is-value R R′ r v is = ap only (L.tells R R′ r (v ∷ []) is)
@@ -61,7 +65,7 @@ as-answered false h h′ kept = sym (kept refl)
 module _ {M : Type 1} {𝓤 : URA M} {H : Heap 𝓤} {A : Atoms 𝓤} {K : Type 0} {W : Given 𝓤 H A} {Γ : List (Item 𝓤)} {G : Goal 𝓤 H} where
   -- the lent clock is opened: it lies in memory
   pub opened : K → Soaks G → {κ : Lft} {q : Share} {γ : GName} (b o : ℕ) (h : Clock)
-      → (IsClock h → Seq K W (‵ (cellAt fullShare (T.the-row .mir) (value h ∷ []) b o) ∷ ‵ (T.the-row .own h (value h ∷ [])) ∷ ‵ (fobor κ q (Body (mem T.the-row) b o γ)) ∷ ‵ (fobs γ (T.the-row .coded .code h)) ∷ ‵ (fauth γ (T.the-row .coded .code h)) ∷ Γ) G)
+      → (IsClock h → Seq K W (‵ (cell h b o) ∷ ‵ (T.the-row .own h (value h ∷ [])) ∷ ‵ (fobor κ q (Body (mem T.the-row) b o γ)) ∷ ‵ (fobs γ (T.the-row .coded .code h)) ∷ ‵ (fauth γ (T.the-row .coded .code h)) ∷ Γ) G)
       → Seq K W (‵ (fobs γ (T.the-row .coded .code h)) ∷ ‵ (fbor κ (Body (mem T.the-row) b o γ)) ∷ ‵ (flft κ q) ∷ Γ) G
   opened t z b o h k =
       opens t z T.the-row {h = h} b o (λ vs. spelt t T.the-row (Is T.the-row) (shows 𝓤 H A T.the-row) (L.vals T.the-type T′.the-laws) (L.tells T.the-type T′.the-laws) fullShare h vs b o $
@@ -70,7 +74,7 @@ module _ {M : Type 1} {𝓤 : URA M} {H : Heap 𝓤} {A : Atoms 𝓤} {K : Type 
   -- and handed back, holding another
   pub handed-back : K → Soaks G → {κ : Lft} {q : Share} {u v : Gv} {γ : GName} (b o : ℕ) (h : Clock) → IsClock h
       → Step K W (‵ (fobs γ (T.the-row .coded .code h)) ∷ ‵ (fbor κ (Body (mem T.the-row) b o γ)) ∷ ‵ (flft κ q) ∷ Γ) G
-      (‵ (cellAt fullShare (T.the-row .mir) (value h ∷ []) b o) ∷ ‵ (fobor κ q (Body (mem T.the-row) b o γ)) ∷ ‵ (fobs γ u) ∷ ‵ (fauth γ v) ∷ Γ) G
+      (‵ (cell h b o) ∷ ‵ (fobor κ q (Body (mem T.the-row) b o γ)) ∷ ‵ (fobs γ u) ∷ ‵ (fauth γ v) ∷ Γ) G
   handed-back t z b o h is = step (λ s. owned t T.the-row (Is T.the-row) (L.makes T.the-type T′.the-plain 𝓤 H A) h (value h ∷ []) is $ move t (1 ∷ 0 ∷ []) $ closes t z T.the-row h (value h ∷ []) b o $ s)
 
   -- what a by-value call has answered: a struct r at the machine value v, of which its contract says φ
@@ -84,10 +88,10 @@ module _ {M : Type 1} {𝓤 : URA M} {H : Heap 𝓤} {A : Atoms 𝓤} {K : Type 
 module _ {M : Type 1} {𝓤 : URA M} {H : Heap 𝓤} {A : Atoms 𝓤} {K : Type 0} {W : Given 𝓤 H A} {Γ : List (Item 𝓤)} where
   -- h′ is stored in its place where y says so
   pub stored-if : K → {C : Calls 𝓤 H} {Λ : Loops 𝓤 H} {E : Env 𝓤 H} {q : Post 𝓤 H} {test new : Operand} {p : Place} {rest : Code} (b o : ℕ) (y : Bool) (h h′ : Clock) → IsClock h′
-      → Opd K W (‵ (cellAt fullShare (T.the-row .mir) (value h ∷ []) b o) ∷ Γ) E test (vbool y) → Opd K W (‵ (cellAt fullShare (T.the-row .mir) (value h ∷ []) b o) ∷ Γ) E new (value h′)
-      → Finds K W (‵ (cellAt fullShare (T.the-row .mir) (value h ∷ []) b o) ∷ Γ) E p (T′.mir, b, o)
-      → Step K W (‵ (cellAt fullShare (T.the-row .mir) (value (cond y h′ h) ∷ []) b o) ∷ Γ) (runs C Λ E rest q)
-      (‵ (cellAt fullShare (T.the-row .mir) (value h ∷ []) b o) ∷ Γ) (runs C Λ E (seq (branch test (assign p (rvOpd new)) skip) rest) q)
+      → Opd K W (‵ (cell h b o) ∷ Γ) E test (vbool y) → Opd K W (‵ (cell h b o) ∷ Γ) E new (value h′)
+      → Finds K W (‵ (cell h b o) ∷ Γ) E p (T′.mir, b, o)
+      → Step K W (‵ (cell (cond y h′ h) b o) ∷ Γ) (runs C Λ E rest q)
+      (‵ (cell h b o) ∷ Γ) (runs C Λ E (seq (branch test (assign p (rvOpd new)) skip) rest) q)
   stored-if t {C} {Λ} {E} {q} {rest = rest} b o true h h′ is tested found there = step (λ s. first t $ branches t tested
       (λ _. assigns-last t (of-opd t found) there (store-raw t 0 refl (L.lawful T.the-type T′.the-laws 𝓤 H A W .typed h′ _ is .0)) $ exec t C Λ E rest q $ s) (λ z. absurd z))
   stored-if t {C} {Λ} {E} {q} {rest = rest} b o false h h′ is tested found there = step (λ s. first t $ branches t tested (λ z. absurd z) (λ _. skips t $ exec t C Λ E rest q $ s))
