@@ -6,6 +6,7 @@ use crate::state::in_range;
 use crate::units::Micros;
 
 // What a clock shows.
+#[repr(C)]
 pub struct Reading {
     pub seconds: u32,
     pub micros: Micros,
@@ -15,6 +16,7 @@ pub struct Reading {
 }
 
 // The answer of a reading: refusal 0 with what the clock shows, or refusal 1 with zeros and status 4.
+#[repr(C)]
 pub struct Told {
     pub refusal: u8,
     pub reading: Reading,

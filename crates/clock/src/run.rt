@@ -13,6 +13,7 @@ use crate::timer::overflow;
 
 // The answer of many ticks: refusal 0 where the call was accepted, else its number in the table of refusals; how many ticks were
 // accepted; the refusal of the tick that ended them, or 0; and the clock after the accepted ones.
+#[repr(C)]
 pub struct CaughtUp {
     pub refusal: u8,
     pub count: u64,

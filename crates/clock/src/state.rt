@@ -18,6 +18,7 @@ use crate::units::OffsetUnits;
 use crate::units::PhaseUnits;
 
 // A clock's state, in the order of document 01's table. Any value of the type may be handed in, sound or not.
+#[repr(C)]
 pub struct Clock {
     // seconds since 1970-01-01T00:00:00Z
     pub seconds: u32,

@@ -52,6 +52,7 @@ pub fn mode_bits() -> ModeBits
 }
 
 // The mode says which fields are selected; the others are not looked at.
+#[repr(C)]
 pub struct Request {
     pub mode: u64,
     pub offset: AskedOffset,

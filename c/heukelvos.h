@@ -1,0 +1,196 @@
+/*
+ * Heukelvos for C: a disciplined clock after README.kern and RFC 1589, whose calls are proved. Link the static library beside it:
+ *
+ *     rt staticlib heukelvos
+ *     gcc -Ic program.c target/staticlib/libheukelvos.a
+ *
+ * x86-64 Linux, C99 or later, or C++. The library has no data that change, allocates nothing, keeps nothing between two calls, and calls
+ * nothing (but memcpy, should the compiler want it), so that a timer handler may call it, and several clocks may be used at once.
+ *
+ * Every call takes any values: a clock that is not sound, or an argument out of its range, gets its refusal number, and nothing is changed.
+ * The lowest number that applies is given. What C itself must see to:
+ *   - a pointer is not null, and points to a whole object (for a label, to `length` bytes) that nothing else reads or writes until the
+ *     call returns: a handler that may interrupt another call on the same clock must be held off;
+ *   - a bool holds 0 or 1, as every conversion to it gives.
+ *
+ * What is promised of each call, and by which definition: docs/REFERENCE.md, "From C". test/c_program.sh holds this file to the crates.
+ */
+#ifndef HEUKELVOS_H
+#define HEUKELVOS_H
+
+#include <stdbool.h>
+#include <stddef.h>
+#include <stdint.h>
+
+#ifdef __cplusplus
+extern "C" {
+#endif
+
+/* Refusals. Each call says below which of them it can answer; 10 to 13 and 15 are those of the readers, which C has not yet. */
+enum heukelvos_refusal {
+	HEUKELVOS_ACCEPTED = 0,
+	HEUKELVOS_STATE = 1,     /* a field of the clock lies outside its range */
+	HEUKELVOS_TIME = 2,      /* a setting outside the ranges of seconds or microseconds */
+	HEUKELVOS_LAST = 3,      /* a tick that would roll over from the last second */
+	HEUKELVOS_MODE = 4,      /* a mode above 63 */
+	HEUKELVOS_OFFSET = 5,    /* the selected offset is not within -127,999 to 127,999 us */
+	HEUKELVOS_FREQUENCY = 6, /* the selected frequency is not strictly between -1,677,721,600 and 1,677,721,600 */
+	HEUKELVOS_ERROR = 7,     /* a selected error is above 16,000,000 us */
+	HEUKELVOS_STATUS = 8,    /* the selected status is above 4 */
+	HEUKELVOS_CONSTANT = 9,  /* the selected time constant is above 4 */
+	HEUKELVOS_ENDED = 10,    /* bytes that end inside a number, a record or an event */
+	HEUKELVOS_FORM = 11,     /* a number that is not in its shortest form, or too long */
+	HEUKELVOS_FIELD = 12,    /* an unknown version or code, or a field out of range */
+	HEUKELVOS_BEYOND = 13,   /* bytes behind a record's end, or too long a history */
+	HEUKELVOS_ROOM = 14,     /* a buffer shorter than what is to be written */
+	HEUKELVOS_LABEL = 15,    /* not a label */
+	HEUKELVOS_CEILING = 16   /* a ceiling above 65,536 ticks */
+};
+
+/* Status. TIME_BAD is 4 here, and 5 in today's sys/timex.h, where 4 is TIME_WAIT. */
+enum heukelvos_status {
+	HEUKELVOS_TIME_OK = 0,  /* synchronized */
+	HEUKELVOS_TIME_INS = 1, /* a second is to be inserted at the end of the day */
+	HEUKELVOS_TIME_DEL = 2, /* the last second of the day is to be deleted */
+	HEUKELVOS_TIME_OOP = 3, /* the inserted second is in progress */
+	HEUKELVOS_TIME_BAD = 4  /* not synchronized */
+};
+
+/* The bits of a request's mode. */
+enum heukelvos_mode {
+	HEUKELVOS_ADJ_OFFSET = 1,
+	HEUKELVOS_ADJ_FREQUENCY = 2,
+	HEUKELVOS_ADJ_MAXERROR = 4,
+	HEUKELVOS_ADJ_ESTERROR = 8,
+	HEUKELVOS_ADJ_STATUS = 16,
+	HEUKELVOS_ADJ_TIMECONST = 32
+};
+
+/* What the units are worth, and the ends of the ranges. */
+#define HEUKELVOS_PHASE_PER_MICRO 268435456    /* phase units in a microsecond */
+#define HEUKELVOS_OFFSET_PER_MICRO 16384       /* offset units in a microsecond */
+#define HEUKELVOS_FREQUENCY_PER_PPM 16777216   /* frequency units in 1 ppm; in timex.freq there are 65,536 */
+#define HEUKELVOS_LAST_SECOND 4294967295u      /* 2106-02-07T06:28:15Z */
+#define HEUKELVOS_LAST_MICRO 999999
+#define HEUKELVOS_MAX_OFFSET_MICROS 127999     /* us, either way: what a request may ask for */
+#define HEUKELVOS_MAX_OFFSET 2097135616        /* offset units, either way: what may be left of it */
+#define HEUKELVOS_MAX_FREQUENCY 1677721600     /* frequency units, 100 ppm either way */
+#define HEUKELVOS_LEAST_ADJUSTMENT (-168819712) /* phase units a tick */
+#define HEUKELVOS_MOST_ADJUSTMENT 303037440
+#define HEUKELVOS_MAX_CONSTANT 4
+#define HEUKELVOS_MAX_ERROR 16000000           /* us, both errors */
+#define HEUKELVOS_MAX_CEILING 65536            /* ticks in one catch-up */
+#define HEUKELVOS_LABEL_SIZE 20                /* bytes of a label */
+
+/*
+ * A clock, 44 bytes. The bytes between fields mean nothing: compare clocks field by field. A field outside its range makes a clock that
+ * is not sound; heukelvos_in_range tells.
+ */
+struct heukelvos_clock {
+	uint32_t seconds;   /* since 1970-01-01T00:00:00Z */
+	uint32_t micros;    /* of the second, 0 to 999,999 us */
+	int32_t phase;      /* the part of a microsecond that no reading shows; phase units, less than a microsecond either way */
+	int32_t offset;     /* what is left of the last offset; offset units, at most HEUKELVOS_MAX_OFFSET either way */
+	int32_t frequency;  /* frequency units, at most HEUKELVOS_MAX_FREQUENCY either way */
+	int32_t adjustment; /* what each tick adds to the phase; phase units, HEUKELVOS_LEAST_ADJUSTMENT to HEUKELVOS_MOST_ADJUSTMENT */
+	uint8_t constant;   /* time constant of the loop, as a power of two: 0 to 4 */
+	uint8_t updated;    /* 1 if an offset was accepted since the last setting, else 0 */
+	uint32_t reftime;   /* the second of that offset; 0 if there is none */
+	uint32_t maxerror;  /* 0 to 16,000,000 us */
+	uint32_t esterror;  /* 0 to 16,000,000 us */
+	uint8_t status;     /* enum heukelvos_status */
+};
+
+/* The answer of a call that may change the clock: 48 bytes. */
+struct heukelvos_outcome {
+	uint8_t refusal;
+	struct heukelvos_clock clock; /* after the call; where it is refused, as it was handed in */
+};
+
+/* The answer of a catch-up by value: 64 bytes. */
+struct heukelvos_caught_up {
+	uint8_t refusal;              /* of the call itself: 0, 1 or 16 */
+	uint64_t count;               /* how many ticks were accepted */
+	uint8_t tick_refusal;         /* of the tick that ended it: 3, or 0 where none was refused */
+	struct heukelvos_clock clock; /* after the accepted ticks; where the call is refused, as it was handed in */
+};
+
+/* The same without the clock, where that is lent: 24 bytes. */
+struct heukelvos_counted {
+	uint8_t refusal;
+	uint64_t count;
+	uint8_t tick_refusal;
+};
+
+/*
+ * A request, 56 bytes. The mode adds up the bits of the fields that it selects; the others are not looked at. Nothing is cut: all 64 bits
+ * of a field count.
+ */
+struct heukelvos_request {
+	uint64_t mode;
+	int64_t offset;    /* us */
+	int64_t frequency; /* frequency units */
+	uint64_t maxerror; /* us */
+	uint64_t esterror; /* us */
+	uint64_t status;   /* enum heukelvos_status */
+	uint64_t constant;
+};
+
+/* What a clock shows: 20 bytes; and the answer of a reading: 24 bytes. */
+struct heukelvos_reading {
+	uint32_t seconds;
+	uint32_t micros;
+	uint8_t status;
+	uint32_t maxerror;
+	uint32_t esterror;
+};
+
+struct heukelvos_told {
+	uint8_t refusal;
+	struct heukelvos_reading reading;
+};
+
+/*
+ * The clock lent, and changed in place: for a timer handler.
+ *
+ * heukelvos_tick: one tick of the 256 Hz timer, hardclock() of RFC 1589. Answers 0; or 1, 3, and the clock is as it was, not written to.
+ *
+ * heukelvos_catch_up: up to `ceiling` ticks in one call, the same as that many single ones, as far as the first that is refused; with
+ * `stop`, none after one that rolls the second over (an inserted second counts as one). Answers refusal 1 for a clock out of range, then 16
+ * for a ceiling above 65,536, with count 0 and tick_refusal 0, and the clock is as it was, not written to. Else refusal 0, how many ticks
+ * were accepted, and tick_refusal 3 if one was refused for the last second, 0 if not: the clock then is the one that the accepted ticks led
+ * to. Ceiling 0 is accepted and does nothing. The ceiling is reached before a refusal is looked for.
+ */
+uint8_t heukelvos_tick(struct heukelvos_clock *clock);
+struct heukelvos_counted heukelvos_catch_up(struct heukelvos_clock *clock, uint64_t ceiling, bool stop);
+
+/*
+ * By value: the clock goes in and comes back in the answer, and the caller's own stays as it is.
+ *
+ * heukelvos_fresh      a clock to which nothing has happened yet, which counts as set to 0 s
+ * heukelvos_in_range   whether every field lies in its range
+ * heukelvos_ticked     what heukelvos_tick answers and leaves
+ * heukelvos_caught_up  what heukelvos_catch_up answers and leaves
+ * heukelvos_set        the clock set to a time; frequency and time constant stay. Refusals 1, 2
+ * heukelvos_adjust     the clock with every selected field's effect, ntp_adjtime() of RFC 1589. Refusals 1, 4, 5, 6, 7, 8, 9
+ * heukelvos_read       what the clock shows. Refusal 1: the reading is then zeros and status 4
+ */
+struct heukelvos_clock heukelvos_fresh(void);
+bool heukelvos_in_range(struct heukelvos_clock clock);
+struct heukelvos_outcome heukelvos_ticked(struct heukelvos_clock clock);
+struct heukelvos_caught_up heukelvos_caught_up(struct heukelvos_clock clock, uint64_t ceiling, bool stop);
+struct heukelvos_outcome heukelvos_set(struct heukelvos_clock clock, uint64_t seconds, uint64_t micros);
+struct heukelvos_outcome heukelvos_adjust(struct heukelvos_clock clock, struct heukelvos_request request);
+struct heukelvos_told heukelvos_read(struct heukelvos_clock clock);
+
+/*
+ * Writes the clock's UTC label, as 1970-01-01T00:00:00Z, into the first twenty of `length` bytes, with no 0 behind it, and leaves the
+ * others. Answers 0; or 1, 14, and all of them are as they were.
+ */
+uint8_t heukelvos_label(struct heukelvos_clock clock, uint8_t *out, size_t length);
+
+#ifdef __cplusplus
+}
+#endif
+
+#endif

@@ -1,0 +1,439 @@
+/*
+ * A program that links the library as a timer handler would, and holds it to c/heukelvos.h. test/c_program.sh builds and runs it.
+ *
+ *   lent_clock           checks the layout, and the calls on a lent clock against the calls by value and against single ticks, field by
+ *                        field; a line for each check, and exit status 1 where one fails
+ *   lent_clock history   what a day of in-place calls did, in the text form of bin/history: a catch-up is the ticks that it tried
+ *   lent_clock lines     what the replay must print for that history, from the same calls
+ */
+#include <inttypes.h>
+#include <stdio.h>
+#include <string.h>
+#include "heukelvos.h"
+
+#define SIZE(type, n) _Static_assert(sizeof(struct type) == (n), "size of " #type)
+#define PLACE(type, field, n) _Static_assert(offsetof(struct type, field) == (n), #type "." #field)
+
+SIZE(heukelvos_clock, 44);
+PLACE(heukelvos_clock, seconds, 0);
+PLACE(heukelvos_clock, micros, 4);
+PLACE(heukelvos_clock, phase, 8);
+PLACE(heukelvos_clock, offset, 12);
+PLACE(heukelvos_clock, frequency, 16);
+PLACE(heukelvos_clock, adjustment, 20);
+PLACE(heukelvos_clock, constant, 24);
+PLACE(heukelvos_clock, updated, 25);
+PLACE(heukelvos_clock, reftime, 28);
+PLACE(heukelvos_clock, maxerror, 32);
+PLACE(heukelvos_clock, esterror, 36);
+PLACE(heukelvos_clock, status, 40);
+SIZE(heukelvos_outcome, 48);
+PLACE(heukelvos_outcome, refusal, 0);
+PLACE(heukelvos_outcome, clock, 4);
+SIZE(heukelvos_caught_up, 64);
+PLACE(heukelvos_caught_up, refusal, 0);
+PLACE(heukelvos_caught_up, count, 8);
+PLACE(heukelvos_caught_up, tick_refusal, 16);
+PLACE(heukelvos_caught_up, clock, 20);
+SIZE(heukelvos_counted, 24);
+PLACE(heukelvos_counted, refusal, 0);
+PLACE(heukelvos_counted, count, 8);
+PLACE(heukelvos_counted, tick_refusal, 16);
+SIZE(heukelvos_request, 56);
+PLACE(heukelvos_request, mode, 0);
+PLACE(heukelvos_request, offset, 8);
+PLACE(heukelvos_request, frequency, 16);
+PLACE(heukelvos_request, maxerror, 24);
+PLACE(heukelvos_request, esterror, 32);
+PLACE(heukelvos_request, status, 40);
+PLACE(heukelvos_request, constant, 48);
+SIZE(heukelvos_reading, 20);
+PLACE(heukelvos_reading, seconds, 0);
+PLACE(heukelvos_reading, micros, 4);
+PLACE(heukelvos_reading, status, 8);
+PLACE(heukelvos_reading, maxerror, 12);
+PLACE(heukelvos_reading, esterror, 16);
+SIZE(heukelvos_told, 24);
+PLACE(heukelvos_told, refusal, 0);
+PLACE(heukelvos_told, reading, 4);
+
+typedef struct heukelvos_clock Clock;
+
+static bool same(Clock a, Clock b)
+{
+	return a.seconds == b.seconds && a.micros == b.micros && a.phase == b.phase && a.offset == b.offset
+		&& a.frequency == b.frequency && a.adjustment == b.adjustment && a.constant == b.constant
+		&& a.updated == b.updated && a.reftime == b.reftime && a.maxerror == b.maxerror
+		&& a.esterror == b.esterror && a.status == b.status;
+}
+
+static void show(const char *name, Clock c)
+{
+	printf("    %s: %" PRIu32 " s %" PRIu32 " us, phase %" PRId32 ", offset %" PRId32 ", frequency %" PRId32
+	       ", adjustment %" PRId32 ", constant %d, updated %d at %" PRIu32 ", errors %" PRIu32 " %" PRIu32 ", status %d\n",
+	       name, c.seconds, c.micros, c.phase, c.offset, c.frequency, c.adjustment, c.constant, c.updated, c.reftime,
+	       c.maxerror, c.esterror, c.status);
+}
+
+/* A clock with a frequency (units), an offset (us), a time constant and then a status asked for. */
+static Clock asked_for(Clock c, int64_t frequency, int64_t offset, uint64_t constant, uint64_t status)
+{
+	struct heukelvos_request r = { 0 };
+	r.mode = HEUKELVOS_ADJ_OFFSET | HEUKELVOS_ADJ_FREQUENCY | HEUKELVOS_ADJ_TIMECONST;
+	r.offset = offset;
+	r.frequency = frequency;
+	r.constant = constant;
+	c = heukelvos_adjust(c, r).clock;
+	r.mode = HEUKELVOS_ADJ_STATUS;
+	r.status = status;
+	return heukelvos_adjust(c, r).clock;
+}
+
+/* The same of a fresh clock that was set to a time. */
+static Clock adjusted(uint64_t seconds, uint64_t micros, int64_t frequency, int64_t offset, uint64_t constant, uint64_t status)
+{
+	return asked_for(heukelvos_set(heukelvos_fresh(), seconds, micros).clock, frequency, offset, constant, status);
+}
+
+/* What heukelvos.h says of a catch-up, by single ticks in place. The microseconds fall at a rollover, also where a second is inserted. */
+static struct heukelvos_caught_up one_by_one(Clock c, uint64_t ceiling, bool stop)
+{
+	struct heukelvos_caught_up r = { 0 };
+	r.clock = c;
+	if (!heukelvos_in_range(c))
+		r.refusal = HEUKELVOS_STATE;
+	else if (ceiling > HEUKELVOS_MAX_CEILING)
+		r.refusal = HEUKELVOS_CEILING;
+	else
+		while (r.count < ceiling) {
+			uint32_t before = r.clock.micros;
+			r.tick_refusal = heukelvos_tick(&r.clock);
+			if (r.tick_refusal)
+				break;
+			r.count++;
+			if (stop && r.clock.micros < before)
+				break;
+		}
+	return r;
+}
+
+/* The lent catch-up, the one by value and single ticks give the same. */
+static bool catches_up(Clock c, uint64_t ceiling, bool stop)
+{
+	struct heukelvos_caught_up single = one_by_one(c, ceiling, stop);
+	struct heukelvos_caught_up value = heukelvos_caught_up(c, ceiling, stop);
+	Clock lent = c;
+	struct heukelvos_counted counted = heukelvos_catch_up(&lent, ceiling, stop);
+	if (same(lent, value.clock) && counted.refusal == value.refusal && counted.count == value.count
+	    && counted.tick_refusal == value.tick_refusal && same(lent, single.clock) && counted.refusal == single.refusal
+	    && counted.count == single.count && counted.tick_refusal == single.tick_refusal)
+		return true;
+	printf("    ceiling %" PRIu64 ", stop %d: lent %d %" PRIu64 " %d, by value %d %" PRIu64 " %d, single ticks %d %" PRIu64 " %d\n",
+	       ceiling, stop, counted.refusal, counted.count, counted.tick_refusal, value.refusal, value.count, value.tick_refusal,
+	       single.refusal, single.count, single.tick_refusal);
+	show("of", c);
+	show("lent", lent);
+	show("by value", value.clock);
+	show("single ticks", single.clock);
+	return false;
+}
+
+/* Clocks to catch up: plain ones, one before each kind of leap, some at the end of time, extreme ones. */
+#define CLOCKS 12
+static Clock sound(int n)
+{
+	const uint64_t midnight = 1798761600; /* 2027-01-01T00:00:00Z */
+	Clock c;
+	switch (n) {
+	case 0: return heukelvos_fresh();
+	case 1: return adjusted(midnight, 0, 50 * HEUKELVOS_FREQUENCY_PER_PPM, 1000, 2, HEUKELVOS_TIME_OK);
+	case 2: return adjusted(midnight - 2, 500000, 0, 0, 0, HEUKELVOS_TIME_INS);
+	case 3: return adjusted(midnight - 1, 999999, -1, 7, 0, HEUKELVOS_TIME_INS);
+	case 4: return adjusted(midnight - 2, 996000, 1, -7, 4, HEUKELVOS_TIME_DEL);
+	case 5: return adjusted(midnight - 1, 0, 0, 0, 1, HEUKELVOS_TIME_OOP);
+	case 6: return adjusted(HEUKELVOS_LAST_SECOND - 1, 0, 0, 0, 0, HEUKELVOS_TIME_OK);
+	case 7: return adjusted(HEUKELVOS_LAST_SECOND, 0, 0, 0, 0, HEUKELVOS_TIME_OK);
+	case 8: return adjusted(HEUKELVOS_LAST_SECOND, 999999, 0, 0, 0, HEUKELVOS_TIME_INS);
+	case 9: return adjusted(0, 0, HEUKELVOS_MAX_FREQUENCY - 1, HEUKELVOS_MAX_OFFSET_MICROS, 0, HEUKELVOS_TIME_OK);
+	case 10: return adjusted(0, 0, 1 - HEUKELVOS_MAX_FREQUENCY, -HEUKELVOS_MAX_OFFSET_MICROS, 0, HEUKELVOS_TIME_OK);
+	default:
+		c = heukelvos_fresh();
+		c.micros = HEUKELVOS_LAST_MICRO;
+		c.phase = HEUKELVOS_PHASE_PER_MICRO - 1;
+		c.adjustment = HEUKELVOS_LEAST_ADJUSTMENT;
+		return c;
+	}
+}
+
+/* Clocks with one field out of its range, each of which the library must see in its place. */
+#define FAULTS 15
+static Clock unsound(int n)
+{
+	Clock c = heukelvos_fresh();
+	switch (n) {
+	case 0: c.micros = HEUKELVOS_LAST_MICRO + 1; break;
+	case 1: c.phase = HEUKELVOS_PHASE_PER_MICRO; break;
+	case 2: c.phase = -HEUKELVOS_PHASE_PER_MICRO; break;
+	case 3: c.offset = HEUKELVOS_MAX_OFFSET + 1; break;
+	case 4: c.offset = -HEUKELVOS_MAX_OFFSET - 1; break;
+	case 5: c.frequency = HEUKELVOS_MAX_FREQUENCY + 1; break;
+	case 6: c.frequency = -HEUKELVOS_MAX_FREQUENCY - 1; break;
+	case 7: c.adjustment = HEUKELVOS_LEAST_ADJUSTMENT - 1; break;
+	case 8: c.adjustment = HEUKELVOS_MOST_ADJUSTMENT + 1; break;
+	case 9: c.constant = HEUKELVOS_MAX_CONSTANT + 1; break;
+	case 10: c.updated = 2; break;
+	case 11: c.reftime = 1; break;
+	case 12: c.maxerror = HEUKELVOS_MAX_ERROR + 1; break;
+	case 13: c.esterror = HEUKELVOS_MAX_ERROR + 1; break;
+	default: c.status = HEUKELVOS_TIME_BAD + 1; break;
+	}
+	return c;
+}
+
+/* Clocks with fields at the ends of their ranges. */
+static bool ends(void)
+{
+	Clock most = heukelvos_fresh(), least = most;
+	most.seconds = most.reftime = HEUKELVOS_LAST_SECOND;
+	most.micros = HEUKELVOS_LAST_MICRO;
+	most.phase = HEUKELVOS_PHASE_PER_MICRO - 1;
+	most.offset = HEUKELVOS_MAX_OFFSET;
+	most.frequency = HEUKELVOS_MAX_FREQUENCY;
+	most.adjustment = HEUKELVOS_MOST_ADJUSTMENT;
+	most.constant = HEUKELVOS_MAX_CONSTANT;
+	most.updated = 1;
+	least.phase = 1 - HEUKELVOS_PHASE_PER_MICRO;
+	least.offset = -HEUKELVOS_MAX_OFFSET;
+	least.frequency = -HEUKELVOS_MAX_FREQUENCY;
+	least.adjustment = HEUKELVOS_LEAST_ADJUSTMENT;
+	least.maxerror = least.esterror = least.status = 0;
+	return heukelvos_in_range(most) && heukelvos_in_range(least);
+}
+
+static bool layout(void)
+{
+	Clock fresh = { 0 };
+	fresh.adjustment = HEUKELVOS_PHASE_PER_MICRO / 4;
+	fresh.maxerror = fresh.esterror = HEUKELVOS_MAX_ERROR;
+	fresh.status = HEUKELVOS_TIME_BAD;
+	if (!same(heukelvos_fresh(), fresh) || !heukelvos_in_range(fresh) || !ends())
+		return false;
+	for (int n = 0; n < FAULTS; n++)
+		if (heukelvos_in_range(unsound(n)))
+			return printf("    fault %d is not seen\n", n), false;
+	Clock c = adjusted(5, 6, 7, 8, 3, HEUKELVOS_TIME_DEL);
+	return c.seconds == 5 && c.micros == 6 && c.frequency == 7 && c.offset == 8 * HEUKELVOS_OFFSET_PER_MICRO && c.constant == 3
+		&& c.updated == 1 && c.reftime == 5 && c.status == HEUKELVOS_TIME_DEL && heukelvos_in_range(c);
+}
+
+static bool million_ticks(void)
+{
+	Clock lent = adjusted(1798761590, 0, 33 * HEUKELVOS_FREQUENCY_PER_PPM, -20000, 0, HEUKELVOS_TIME_INS);
+	for (int n = 0; n < 1000000; n++) {
+		struct heukelvos_outcome value = heukelvos_ticked(lent);
+		uint8_t refusal = heukelvos_tick(&lent);
+		if (refusal != 0 || value.refusal != 0 || !same(lent, value.clock)) {
+			printf("    tick %d: refusal %d, by value %d\n", n, refusal, value.refusal);
+			show("lent", lent);
+			show("by value", value.clock);
+			return false;
+		}
+	}
+	return lent.status == HEUKELVOS_TIME_OK; /* the inserted second has passed */
+}
+
+/* A refused tick leaves the lent clock as it was. */
+static bool refused_ticks(void)
+{
+	for (int n = 0; n < FAULTS; n++) {
+		Clock lent = unsound(n);
+		if (heukelvos_tick(&lent) != HEUKELVOS_STATE || !same(lent, unsound(n)))
+			return printf("    fault %d\n", n), false;
+	}
+	Clock lent = sound(8);
+	return heukelvos_tick(&lent) == HEUKELVOS_LAST && same(lent, sound(8)) && heukelvos_ticked(lent).refusal == HEUKELVOS_LAST;
+}
+
+static bool edges(void)
+{
+	static const uint64_t ceilings[] = { 0, 1, 2, 3, 254, 255, 256, 257, 258, 511, 512, 513, 1000, 65535, 65536, 65537, 131072,
+		UINT64_C(0x100000000), UINT64_C(0x100000001), UINT64_C(0x8000000000000000), UINT64_MAX };
+	for (size_t k = 0; k < sizeof ceilings / sizeof *ceilings; k++)
+		for (int n = 0; n < 2 * (CLOCKS + FAULTS); n++) {
+			Clock c = n / 2 < CLOCKS ? sound(n / 2) : unsound(n / 2 - CLOCKS);
+			if (!catches_up(c, ceilings[k], n % 2))
+				return false;
+		}
+	return true;
+}
+
+/* Marsaglia's xorshift64. */
+static uint64_t drawn = 88172645463325252u;
+static uint64_t draw(uint64_t below)
+{
+	drawn ^= drawn << 13;
+	drawn ^= drawn >> 7;
+	drawn ^= drawn << 17;
+	return drawn % below;
+}
+
+/* A clock with any 32 bits in one field: mostly one that is not sound. */
+static Clock spoilt(Clock c)
+{
+	uint32_t any = draw(UINT64_C(1) << 32);
+	switch (draw(8)) {
+	case 0: c.micros = any; break;
+	case 1: c.phase = (int32_t)any; break;
+	case 2: c.offset = (int32_t)any; break;
+	case 3: c.frequency = (int32_t)any; break;
+	case 4: c.adjustment = (int32_t)any; break;
+	case 5: c.updated = any % 4; break;
+	case 6: c.maxerror = any; break;
+	default: c.status = any % 8; break;
+	}
+	return c;
+}
+
+static bool random_runs(void)
+{
+	bool right = true;
+	for (int n = 0; n < 200000 && right; n++) {
+		Clock c = adjusted(draw(3) ? draw(UINT64_C(1) << 32) : HEUKELVOS_LAST_SECOND - draw(3), draw(1000000),
+		                   (int64_t)draw(UINT64_C(2) * HEUKELVOS_MAX_FREQUENCY - 1) - HEUKELVOS_MAX_FREQUENCY + 1,
+		                   (int64_t)draw(2 * HEUKELVOS_MAX_OFFSET_MICROS + 1) - HEUKELVOS_MAX_OFFSET_MICROS, draw(5), draw(5));
+		if (draw(2))
+			c = heukelvos_caught_up(c, draw(1000), false).clock;
+		if (draw(8) == 0)
+			c = spoilt(c);
+		right = catches_up(c, draw(20) ? draw(1500) : draw(70000), draw(2));
+	}
+	return right;
+}
+
+/* The refusal of a request that asks for one thing. */
+static uint8_t asked(uint64_t mode, int64_t number)
+{
+	struct heukelvos_request r = { mode, number, number, number, number, number, number };
+	struct heukelvos_outcome o = heukelvos_adjust(heukelvos_fresh(), r);
+	if (o.refusal != 0 && !same(o.clock, heukelvos_fresh()))
+		return UINT8_MAX;
+	return o.refusal;
+}
+
+/* Each bit of the mode selects its field, whose refusal has its number at the first value that is not allowed. */
+static bool requests(void)
+{
+	return asked(63, 0) == 0 && asked(64, 0) == HEUKELVOS_MODE
+		&& asked(HEUKELVOS_ADJ_OFFSET, HEUKELVOS_MAX_OFFSET_MICROS) == 0
+		&& asked(HEUKELVOS_ADJ_OFFSET, -HEUKELVOS_MAX_OFFSET_MICROS - 1) == HEUKELVOS_OFFSET
+		&& asked(HEUKELVOS_ADJ_FREQUENCY, 1 - HEUKELVOS_MAX_FREQUENCY) == 0
+		&& asked(HEUKELVOS_ADJ_FREQUENCY, HEUKELVOS_MAX_FREQUENCY) == HEUKELVOS_FREQUENCY
+		&& asked(HEUKELVOS_ADJ_MAXERROR, HEUKELVOS_MAX_ERROR) == 0
+		&& asked(HEUKELVOS_ADJ_MAXERROR, HEUKELVOS_MAX_ERROR + 1) == HEUKELVOS_ERROR
+		&& asked(HEUKELVOS_ADJ_ESTERROR, HEUKELVOS_MAX_ERROR) == 0
+		&& asked(HEUKELVOS_ADJ_ESTERROR, HEUKELVOS_MAX_ERROR + 1) == HEUKELVOS_ERROR
+		&& asked(HEUKELVOS_ADJ_STATUS, HEUKELVOS_TIME_BAD) == 0
+		&& asked(HEUKELVOS_ADJ_STATUS, HEUKELVOS_TIME_BAD + 1) == HEUKELVOS_STATUS
+		&& asked(HEUKELVOS_ADJ_TIMECONST, HEUKELVOS_MAX_CONSTANT) == 0
+		&& asked(HEUKELVOS_ADJ_TIMECONST, HEUKELVOS_MAX_CONSTANT + 1) == HEUKELVOS_CONSTANT;
+}
+
+static bool other_calls(void)
+{
+	uint8_t text[22], untouched[22];
+	memset(untouched, 'x', sizeof untouched);
+	memcpy(text, untouched, sizeof text);
+	Clock c = sound(2);
+	struct heukelvos_told t = heukelvos_read(c);
+	struct heukelvos_told none = heukelvos_read(unsound(0));
+	return heukelvos_label(c, text, 19) == HEUKELVOS_ROOM && memcmp(text, untouched, sizeof text) == 0
+		&& heukelvos_label(unsound(0), text, 0) == HEUKELVOS_STATE && memcmp(text, untouched, sizeof text) == 0
+		&& heukelvos_label(c, text, sizeof text) == 0 && memcmp(text, "2026-12-31T23:59:58Zxx", sizeof text) == 0
+		&& t.refusal == 0 && t.reading.seconds == c.seconds && t.reading.micros == 500000 && t.reading.status == HEUKELVOS_TIME_INS
+		&& t.reading.maxerror == c.maxerror && t.reading.esterror == c.esterror
+		&& none.refusal == HEUKELVOS_STATE && none.reading.seconds == 0 && none.reading.micros == 0
+		&& none.reading.status == HEUKELVOS_TIME_BAD && none.reading.maxerror == 0 && none.reading.esterror == 0
+		&& heukelvos_set(c, UINT64_C(1) << 32, 0).refusal == HEUKELVOS_TIME && same(heukelvos_set(c, 0, 1000000).clock, c);
+}
+
+/* The day of calls on one lent clock. With `history` the events, else the lines. */
+static bool history;
+static Clock day;
+
+static void printed(void)
+{
+	uint8_t label[HEUKELVOS_LABEL_SIZE];
+	if (history) {
+		puts("print");
+		return;
+	}
+	heukelvos_label(day, label, sizeof label);
+	printf("%.*s %06" PRIu32 " %d\n", (int)sizeof label, (const char *)label, day.micros, day.status);
+}
+
+/* A catch-up is told as the ticks that it tried: the accepted ones, and the one that was refused. */
+static void slept(uint64_t ceiling, bool stop)
+{
+	struct heukelvos_counted r = heukelvos_catch_up(&day, ceiling, stop);
+	if (history)
+		printf("tick %" PRIu64 "\n", r.count + (r.tick_refusal != 0));
+	else if (r.tick_refusal)
+		printf("refused %d\n", r.tick_refusal);
+	printed();
+}
+
+static void set(uint64_t seconds, int64_t offset, int64_t frequency, uint64_t status)
+{
+	day = asked_for(heukelvos_set(day, seconds, 0).clock, frequency, offset, 1, status);
+	if (history)
+		printf("set %" PRIu64 " 0\nrequest offset %" PRId64 " frequency %" PRId64 " constant 1\nrequest status %" PRIu64 "\n",
+		       seconds, offset, frequency, status);
+}
+
+static void day_of_calls(void)
+{
+	day = heukelvos_fresh();
+	set(1798750000, 90000, -5 * HEUKELVOS_FREQUENCY_PER_PPM, HEUKELVOS_TIME_INS);
+	for (int n = 0; n < 1000000; n++)
+		heukelvos_tick(&day);
+	if (history)
+		puts("tick 1000000");
+	printed();
+	slept(HEUKELVOS_MAX_CEILING, false);
+	for (uint64_t ceiling = 0; ceiling <= 2048; ceiling += 256)
+		slept(ceiling, true);
+	set(1798761590, 4321, 99 * HEUKELVOS_FREQUENCY_PER_PPM, HEUKELVOS_TIME_INS);
+	for (int n = 0; n < 14; n++)
+		slept(HEUKELVOS_MAX_CEILING, true);
+	set(HEUKELVOS_LAST_SECOND - 3, -4321, 0, HEUKELVOS_TIME_OK);
+	for (int n = 0; n < 5; n++)
+		slept(HEUKELVOS_MAX_CEILING, true);
+	slept(HEUKELVOS_MAX_CEILING, false);
+}
+
+static int failed;
+
+static void check(const char *name, bool right)
+{
+	printf("%s: %s\n", name, right ? "as it should be" : "NOT as it should be");
+	failed += !right;
+}
+
+int main(int argc, char **argv)
+{
+	if (argc == 2 && (strcmp(argv[1], "history") == 0 || strcmp(argv[1], "lines") == 0)) {
+		history = strcmp(argv[1], "history") == 0;
+		day_of_calls();
+		return 0;
+	}
+	if (argc != 1)
+		return fprintf(stderr, "usage: lent_clock [history | lines]\n"), 2;
+	check("the library's clock is the header's, field by field", layout());
+	check("a million ticks in place, and by value", million_ticks());
+	check("ticks that are refused", refused_ticks());
+	check("catch-ups at their edges: lent, by value, by single ticks", edges());
+	check("200,000 catch-ups of random clocks: lent, by value, by single ticks", random_runs());
+	check("requests", requests());
+	check("settings, readings, labels", other_calls());
+	return failed != 0;
+}

@@ -1,0 +1,15 @@
+// The clock for programs in C: c/heukelvos.h declares these functions and says what each owes. `rt staticlib heukelvos` writes the library.
+mod lent;
+mod value;
+
+pub use lent::Counted;
+pub use lent::heukelvos_catch_up;
+pub use lent::heukelvos_tick;
+pub use value::heukelvos_adjust;
+pub use value::heukelvos_caught_up;
+pub use value::heukelvos_fresh;
+pub use value::heukelvos_in_range;
+pub use value::heukelvos_label;
+pub use value::heukelvos_read;
+pub use value::heukelvos_set;
+pub use value::heukelvos_ticked;

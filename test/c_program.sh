@@ -1,0 +1,84 @@
+# c/heukelvos.h and the library for C: the program of c/ is built against both, finds nothing wrong, and ends where the replay of its
+# history ends. The header's numbers are those of the crates and of docs/REFERENCE.md.
+# shellcheck shell=sh
+
+library=target/staticlib/libheukelvos.a
+
+# Every constant of the header, as 'NAME VALUE', without its prefix.
+of_header() {
+    sed -n -e 's/^#define HEUKELVOS_\([A-Z_]*\) (\{0,1\}\(-\{0,1\}[0-9]*\).*/\1 \2/p' \
+        -e 's/^	HEUKELVOS_\([A-Z_]*\) = \([0-9]*\).*/\1 \2/p' c/heukelvos.h
+}
+
+# Every public constant of the crates that is written as a number, the same way.
+of_crates() {
+    cat crates/clock/src/*.rt crates/request/src/*.rt | sed -n 's/^pub const \([A-Z_]*\): [a-z0-9]* = \(-\{0,1\}[0-9]*\);$/\1 \2/p'
+}
+
+same_numbers() {
+    of_header >"$work/header"
+    of_crates >"$work/crates"
+    compared=0
+    while read -r name value; do
+        in_header=$(sed -n "s/^$name //p" "$work/header")
+        [ -n "$in_header" ] || continue
+        [ "$in_header" = "$value" ] || { echo "$name is $value in the crates and $in_header in the header"; return 1; }
+        compared=$((compared + 1))
+    done <"$work/crates"
+    [ "$compared" -ge 18 ] || { echo "only $compared constants were found in both"; return 1; }
+}
+
+# The header has a name for each refusal of the reference, and no other number.
+same_refusals() {
+    sed -n '/^enum heukelvos_refusal/,/^}/s/.* = \([0-9]*\).*/\1/p' c/heukelvos.h >"$work/header"
+    sed -n '/^## Refusals/,/^## Numbers/s/^| \([0-9][0-9]*\) .*/\1/p' docs/REFERENCE.md >"$work/reference"
+    [ -s "$work/reference" ] && diff "$work/header" "$work/reference"
+}
+
+plain_c() { echo '#include "heukelvos.h"' | gcc -std=c99 -Wall -Wextra -Wpedantic -Werror -fsyntax-only -Ic -x c -; }
+
+plain_cplusplus() { echo '#include "heukelvos.h"' | g++ -Wall -Wextra -Wpedantic -Werror -fsyntax-only -Ic -x c++ -; }
+
+built() {
+    [ -f "$library" ] || { echo "there is no $library: run 'rt staticlib heukelvos'"; return 1; }
+    gcc -std=c11 -O2 -Wall -Wextra -Wpedantic -Werror -Ic -o "$work/lent_clock" c/lent_clock.c "$library"
+}
+
+# It keeps nothing between two calls, and calls nothing: the compiler may want memcpy and the like.
+stands_alone() {
+    nm "$library" >"$work/symbols" || return 1
+    grep -q ' T heukelvos_tick$' "$work/symbols" || { echo "it has no heukelvos_tick"; return 1; }
+    ! grep -E ' [BCDGSbdgs] | U ' "$work/symbols" | grep -vE ' U mem(cpy|move|set)$'
+}
+
+nothing_wrong() {
+    status_of "$work/lent_clock"
+    told=$(grep -c ': as it should be$' "$work/out")
+    [ "$status" -eq 0 ] && [ "$told" -eq "$(grep -c '	check("' c/lent_clock.c)" ] || shown "$told of its checks"
+}
+
+# A million ticks, then catch-ups, with an inserted second and with the last one: the same lines, and none too few.
+ends_as_the_replay() {
+    "$work/lent_clock" history >"$work/events" && "$work/lent_clock" lines >"$work/wanted" || return 1
+    grep -qx 'tick 1000000' "$work/events" && grep -q ':60Z ' "$work/wanted" && grep -qx 'refused 3' "$work/wanted" || return 1
+    bin/history bytes <"$work/events" >"$work/bytes" || return 1
+    target/bin/replay <"$work/bytes" >"$work/lines" || return 1
+    diff "$work/lines" "$work/wanted"
+}
+
+tell "the header's numbers are the crates'" same_numbers
+tell "the header's refusals are the reference's" same_refusals
+if [ -n "$(no_c)" ]; then
+    pass_over "the program in C" "$(no_c)"
+else
+    tell "the header in C99" plain_c
+    if command -v g++ >/dev/null; then
+        tell "the header in C++" plain_cplusplus
+    else
+        pass_over "the header in C++" "g++ is not on this machine"
+    fi
+    tell "the program in C is built" built
+    tell "the library stands alone" stands_alone
+    tell "the program in C finds nothing wrong" nothing_wrong
+    tell "the program in C ends as the replay of its history" ends_as_the_replay
+fi
