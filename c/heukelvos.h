@@ -5,12 +5,16 @@
  *     gcc -Ic program.c target/staticlib/libheukelvos.a
  *
  * x86-64 Linux, C99 or later, or C++. The library has no data that change, allocates nothing, keeps nothing between two calls, and calls
- * nothing (but memcpy, should the compiler want it), so that a timer handler may call it, and several clocks may be used at once.
+ * nothing (but memcpy, should the compiler want it), so that a timer handler may call it, and several clocks may be used at once. It is
+ * user-space code: it uses SSE registers and the red zone below the stack, which a signal handler has saved and a bare interrupt has not.
  *
  * Every call takes any values: a clock that is not sound, or an argument out of its range, gets its refusal number, and nothing is changed.
  * The lowest number that applies is given. What C itself must see to:
- *   - a pointer is not null, and points to a whole object (for a label, to `length` bytes) that nothing else reads or writes until the
- *     call returns: a handler that may interrupt another call on the same clock must be held off;
+ *   - a pointer is not null, and points to a whole object, aligned as its type (for a label, to `length` bytes), that nothing else reads or
+ *     writes until the call returns;
+ *   - a handler that ticks a clock is held off while the same clock is used elsewhere: around a call that it is lent to; by value, from the
+ *     copy of the clock that goes in until the answer's clock is stored, or the ticks made in between are lost; for a reading or a label,
+ *     while the clock is copied;
  *   - a bool holds 0 or 1, as every conversion to it gives.
  *
  * What is promised of each call, and by which definition: docs/REFERENCE.md, "From C". test/c_program.sh holds this file to the crates.
@@ -29,22 +33,22 @@ extern "C" {
 /* Refusals. Each call says below which of them it can answer; 10 to 13 and 15 are those of the readers, which C has not yet. */
 enum heukelvos_refusal {
 	HEUKELVOS_ACCEPTED = 0,
-	HEUKELVOS_STATE = 1,     /* a field of the clock lies outside its range */
-	HEUKELVOS_TIME = 2,      /* a setting outside the ranges of seconds or microseconds */
-	HEUKELVOS_LAST = 3,      /* a tick that would roll over from the last second */
-	HEUKELVOS_MODE = 4,      /* a mode above 63 */
-	HEUKELVOS_OFFSET = 5,    /* the selected offset is not within -127,999 to 127,999 us */
-	HEUKELVOS_FREQUENCY = 6, /* the selected frequency is not strictly between -1,677,721,600 and 1,677,721,600 */
-	HEUKELVOS_ERROR = 7,     /* a selected error is above 16,000,000 us */
-	HEUKELVOS_STATUS = 8,    /* the selected status is above 4 */
-	HEUKELVOS_CONSTANT = 9,  /* the selected time constant is above 4 */
-	HEUKELVOS_ENDED = 10,    /* bytes that end inside a number, a record or an event */
-	HEUKELVOS_FORM = 11,     /* a number that is not in its shortest form, or too long */
-	HEUKELVOS_FIELD = 12,    /* an unknown version or code, or a field out of range */
-	HEUKELVOS_BEYOND = 13,   /* bytes behind a record's end, or too long a history */
-	HEUKELVOS_ROOM = 14,     /* a buffer shorter than what is to be written */
-	HEUKELVOS_LABEL = 15,    /* not a label */
-	HEUKELVOS_CEILING = 16   /* a ceiling above 65,536 ticks */
+	HEUKELVOS_REFUSED_STATE = 1,     /* a field of the clock lies outside its range */
+	HEUKELVOS_REFUSED_TIME = 2,      /* a setting outside the ranges of seconds or microseconds */
+	HEUKELVOS_REFUSED_LAST = 3,      /* a tick that would roll over from the last second */
+	HEUKELVOS_REFUSED_MODE = 4,      /* a mode above 63 */
+	HEUKELVOS_REFUSED_OFFSET = 5,    /* the selected offset is not within -127,999 to 127,999 us */
+	HEUKELVOS_REFUSED_FREQUENCY = 6, /* the selected frequency is not strictly between -1,677,721,600 and 1,677,721,600 */
+	HEUKELVOS_REFUSED_ERROR = 7,     /* a selected error is above 16,000,000 us */
+	HEUKELVOS_REFUSED_STATUS = 8,    /* the selected status is above 4 */
+	HEUKELVOS_REFUSED_CONSTANT = 9,  /* the selected time constant is above 4 */
+	HEUKELVOS_REFUSED_ENDED = 10,    /* bytes that end inside a number, a record or an event */
+	HEUKELVOS_REFUSED_FORM = 11,     /* a number that is not in its shortest form, or too long */
+	HEUKELVOS_REFUSED_FIELD = 12,    /* an unknown version or code, or a field out of range */
+	HEUKELVOS_REFUSED_BEYOND = 13,   /* bytes behind a record's end, or too long a history */
+	HEUKELVOS_REFUSED_ROOM = 14,     /* a buffer shorter than what is to be written */
+	HEUKELVOS_REFUSED_LABEL = 15,    /* not a label */
+	HEUKELVOS_REFUSED_CEILING = 16   /* a ceiling above 65,536 ticks */
 };
 
 /* Status. TIME_BAD is 4 here, and 5 in today's sys/timex.h, where 4 is TIME_WAIT. */
@@ -70,7 +74,7 @@ enum heukelvos_mode {
 #define HEUKELVOS_PHASE_PER_MICRO 268435456    /* phase units in a microsecond */
 #define HEUKELVOS_OFFSET_PER_MICRO 16384       /* offset units in a microsecond */
 #define HEUKELVOS_FREQUENCY_PER_PPM 16777216   /* frequency units in 1 ppm; in timex.freq there are 65,536 */
-#define HEUKELVOS_LAST_SECOND 4294967295u      /* 2106-02-07T06:28:15Z */
+#define HEUKELVOS_LAST_SECOND 4294967295       /* 2106-02-07T06:28:15Z; a long, so that the second after it is none of 32 bits */
 #define HEUKELVOS_LAST_MICRO 999999
 #define HEUKELVOS_MAX_OFFSET_MICROS 127999     /* us, either way: what a request may ask for */
 #define HEUKELVOS_MAX_OFFSET 2097135616        /* offset units, either way: what may be left of it */
@@ -108,7 +112,7 @@ struct heukelvos_outcome {
 };
 
 /* The answer of a catch-up by value: 64 bytes. */
-struct heukelvos_caught_up {
+struct heukelvos_catch_up_answer {
 	uint8_t refusal;              /* of the call itself: 0, 1 or 16 */
 	uint64_t count;               /* how many ticks were accepted */
 	uint8_t tick_refusal;         /* of the tick that ended it: 3, or 0 where none was refused */
@@ -133,16 +137,16 @@ struct heukelvos_request {
 	uint64_t maxerror; /* us */
 	uint64_t esterror; /* us */
 	uint64_t status;   /* enum heukelvos_status */
-	uint64_t constant;
+	uint64_t constant; /* 0 to 4 */
 };
 
 /* What a clock shows: 20 bytes; and the answer of a reading: 24 bytes. */
 struct heukelvos_reading {
-	uint32_t seconds;
-	uint32_t micros;
-	uint8_t status;
-	uint32_t maxerror;
-	uint32_t esterror;
+	uint32_t seconds;  /* since 1970-01-01T00:00:00Z */
+	uint32_t micros;   /* of the second, us */
+	uint8_t status;    /* enum heukelvos_status */
+	uint32_t maxerror; /* us */
+	uint32_t esterror; /* us */
 };
 
 struct heukelvos_told {
@@ -171,21 +175,24 @@ struct heukelvos_counted heukelvos_catch_up(struct heukelvos_clock *clock, uint6
  * heukelvos_in_range   whether every field lies in its range
  * heukelvos_ticked     what heukelvos_tick answers and leaves
  * heukelvos_caught_up  what heukelvos_catch_up answers and leaves
- * heukelvos_set        the clock set to a time; frequency and time constant stay. Refusals 1, 2
- * heukelvos_adjust     the clock with every selected field's effect, ntp_adjtime() of RFC 1589. Refusals 1, 4, 5, 6, 7, 8, 9
+ * heukelvos_set        the clock set to seconds since 1970, 0 to 4,294,967,295, and microseconds, 0 to 999,999. Frequency and time constant
+ *                      stay; phase and offset left are 0, no offset counts as accepted, both errors are 16,000,000 us, the status is BAD.
+ *                      Refusals 1, 2
+ * heukelvos_adjust     the clock with every selected field's effect, ntp_adjtime() of RFC 1589. A status is written only where the clock is
+ *                      OK or BAD is written; an offset turns BAD to OK, unless the same request writes BAD. Refusals 1, 4, 5, 6, 7, 8, 9
  * heukelvos_read       what the clock shows. Refusal 1: the reading is then zeros and status 4
  */
 struct heukelvos_clock heukelvos_fresh(void);
 bool heukelvos_in_range(struct heukelvos_clock clock);
 struct heukelvos_outcome heukelvos_ticked(struct heukelvos_clock clock);
-struct heukelvos_caught_up heukelvos_caught_up(struct heukelvos_clock clock, uint64_t ceiling, bool stop);
+struct heukelvos_catch_up_answer heukelvos_caught_up(struct heukelvos_clock clock, uint64_t ceiling, bool stop);
 struct heukelvos_outcome heukelvos_set(struct heukelvos_clock clock, uint64_t seconds, uint64_t micros);
 struct heukelvos_outcome heukelvos_adjust(struct heukelvos_clock clock, struct heukelvos_request request);
 struct heukelvos_told heukelvos_read(struct heukelvos_clock clock);
 
 /*
  * Writes the clock's UTC label, as 1970-01-01T00:00:00Z, into the first twenty of `length` bytes, with no 0 behind it, and leaves the
- * others. Answers 0; or 1, 14, and all of them are as they were.
+ * others; an inserted second is 23:59:60. Answers 0; or 1, 14, and all of them are as they were.
  */
 uint8_t heukelvos_label(struct heukelvos_clock clock, uint8_t *out, size_t length);
 

@@ -30,11 +30,11 @@ PLACE(heukelvos_clock, status, 40);
 SIZE(heukelvos_outcome, 48);
 PLACE(heukelvos_outcome, refusal, 0);
 PLACE(heukelvos_outcome, clock, 4);
-SIZE(heukelvos_caught_up, 64);
-PLACE(heukelvos_caught_up, refusal, 0);
-PLACE(heukelvos_caught_up, count, 8);
-PLACE(heukelvos_caught_up, tick_refusal, 16);
-PLACE(heukelvos_caught_up, clock, 20);
+SIZE(heukelvos_catch_up_answer, 64);
+PLACE(heukelvos_catch_up_answer, refusal, 0);
+PLACE(heukelvos_catch_up_answer, count, 8);
+PLACE(heukelvos_catch_up_answer, tick_refusal, 16);
+PLACE(heukelvos_catch_up_answer, clock, 20);
 SIZE(heukelvos_counted, 24);
 PLACE(heukelvos_counted, refusal, 0);
 PLACE(heukelvos_counted, count, 8);
@@ -96,14 +96,14 @@ static Clock adjusted(uint64_t seconds, uint64_t micros, int64_t frequency, int6
 }
 
 /* What heukelvos.h says of a catch-up, by single ticks in place. The microseconds fall at a rollover, also where a second is inserted. */
-static struct heukelvos_caught_up one_by_one(Clock c, uint64_t ceiling, bool stop)
+static struct heukelvos_catch_up_answer one_by_one(Clock c, uint64_t ceiling, bool stop)
 {
-	struct heukelvos_caught_up r = { 0 };
+	struct heukelvos_catch_up_answer r = { 0 };
 	r.clock = c;
 	if (!heukelvos_in_range(c))
-		r.refusal = HEUKELVOS_STATE;
+		r.refusal = HEUKELVOS_REFUSED_STATE;
 	else if (ceiling > HEUKELVOS_MAX_CEILING)
-		r.refusal = HEUKELVOS_CEILING;
+		r.refusal = HEUKELVOS_REFUSED_CEILING;
 	else
 		while (r.count < ceiling) {
 			uint32_t before = r.clock.micros;
@@ -120,8 +120,8 @@ static struct heukelvos_caught_up one_by_one(Clock c, uint64_t ceiling, bool sto
 /* The lent catch-up, the one by value and single ticks give the same. */
 static bool catches_up(Clock c, uint64_t ceiling, bool stop)
 {
-	struct heukelvos_caught_up single = one_by_one(c, ceiling, stop);
-	struct heukelvos_caught_up value = heukelvos_caught_up(c, ceiling, stop);
+	struct heukelvos_catch_up_answer single = one_by_one(c, ceiling, stop);
+	struct heukelvos_catch_up_answer value = heukelvos_caught_up(c, ceiling, stop);
 	Clock lent = c;
 	struct heukelvos_counted counted = heukelvos_catch_up(&lent, ceiling, stop);
 	if (same(lent, value.clock) && counted.refusal == value.refusal && counted.count == value.count
@@ -247,11 +247,11 @@ static bool refused_ticks(void)
 {
 	for (int n = 0; n < FAULTS; n++) {
 		Clock lent = unsound(n);
-		if (heukelvos_tick(&lent) != HEUKELVOS_STATE || !same(lent, unsound(n)))
+		if (heukelvos_tick(&lent) != HEUKELVOS_REFUSED_STATE || !same(lent, unsound(n)))
 			return printf("    fault %d\n", n), false;
 	}
 	Clock lent = sound(8);
-	return heukelvos_tick(&lent) == HEUKELVOS_LAST && same(lent, sound(8)) && heukelvos_ticked(lent).refusal == HEUKELVOS_LAST;
+	return heukelvos_tick(&lent) == HEUKELVOS_REFUSED_LAST && same(lent, sound(8)) && heukelvos_ticked(lent).refusal == HEUKELVOS_REFUSED_LAST;
 }
 
 static bool edges(void)
@@ -323,19 +323,19 @@ static uint8_t asked(uint64_t mode, int64_t number)
 /* Each bit of the mode selects its field, whose refusal has its number at the first value that is not allowed. */
 static bool requests(void)
 {
-	return asked(63, 0) == 0 && asked(64, 0) == HEUKELVOS_MODE
+	return asked(63, 0) == 0 && asked(64, 0) == HEUKELVOS_REFUSED_MODE
 		&& asked(HEUKELVOS_ADJ_OFFSET, HEUKELVOS_MAX_OFFSET_MICROS) == 0
-		&& asked(HEUKELVOS_ADJ_OFFSET, -HEUKELVOS_MAX_OFFSET_MICROS - 1) == HEUKELVOS_OFFSET
+		&& asked(HEUKELVOS_ADJ_OFFSET, -HEUKELVOS_MAX_OFFSET_MICROS - 1) == HEUKELVOS_REFUSED_OFFSET
 		&& asked(HEUKELVOS_ADJ_FREQUENCY, 1 - HEUKELVOS_MAX_FREQUENCY) == 0
-		&& asked(HEUKELVOS_ADJ_FREQUENCY, HEUKELVOS_MAX_FREQUENCY) == HEUKELVOS_FREQUENCY
+		&& asked(HEUKELVOS_ADJ_FREQUENCY, HEUKELVOS_MAX_FREQUENCY) == HEUKELVOS_REFUSED_FREQUENCY
 		&& asked(HEUKELVOS_ADJ_MAXERROR, HEUKELVOS_MAX_ERROR) == 0
-		&& asked(HEUKELVOS_ADJ_MAXERROR, HEUKELVOS_MAX_ERROR + 1) == HEUKELVOS_ERROR
+		&& asked(HEUKELVOS_ADJ_MAXERROR, HEUKELVOS_MAX_ERROR + 1) == HEUKELVOS_REFUSED_ERROR
 		&& asked(HEUKELVOS_ADJ_ESTERROR, HEUKELVOS_MAX_ERROR) == 0
-		&& asked(HEUKELVOS_ADJ_ESTERROR, HEUKELVOS_MAX_ERROR + 1) == HEUKELVOS_ERROR
+		&& asked(HEUKELVOS_ADJ_ESTERROR, HEUKELVOS_MAX_ERROR + 1) == HEUKELVOS_REFUSED_ERROR
 		&& asked(HEUKELVOS_ADJ_STATUS, HEUKELVOS_TIME_BAD) == 0
-		&& asked(HEUKELVOS_ADJ_STATUS, HEUKELVOS_TIME_BAD + 1) == HEUKELVOS_STATUS
+		&& asked(HEUKELVOS_ADJ_STATUS, HEUKELVOS_TIME_BAD + 1) == HEUKELVOS_REFUSED_STATUS
 		&& asked(HEUKELVOS_ADJ_TIMECONST, HEUKELVOS_MAX_CONSTANT) == 0
-		&& asked(HEUKELVOS_ADJ_TIMECONST, HEUKELVOS_MAX_CONSTANT + 1) == HEUKELVOS_CONSTANT;
+		&& asked(HEUKELVOS_ADJ_TIMECONST, HEUKELVOS_MAX_CONSTANT + 1) == HEUKELVOS_REFUSED_CONSTANT;
 }
 
 static bool other_calls(void)
@@ -346,14 +346,14 @@ static bool other_calls(void)
 	Clock c = sound(2);
 	struct heukelvos_told t = heukelvos_read(c);
 	struct heukelvos_told none = heukelvos_read(unsound(0));
-	return heukelvos_label(c, text, 19) == HEUKELVOS_ROOM && memcmp(text, untouched, sizeof text) == 0
-		&& heukelvos_label(unsound(0), text, 0) == HEUKELVOS_STATE && memcmp(text, untouched, sizeof text) == 0
+	return heukelvos_label(c, text, 19) == HEUKELVOS_REFUSED_ROOM && memcmp(text, untouched, sizeof text) == 0
+		&& heukelvos_label(unsound(0), text, 0) == HEUKELVOS_REFUSED_STATE && memcmp(text, untouched, sizeof text) == 0
 		&& heukelvos_label(c, text, sizeof text) == 0 && memcmp(text, "2026-12-31T23:59:58Zxx", sizeof text) == 0
 		&& t.refusal == 0 && t.reading.seconds == c.seconds && t.reading.micros == 500000 && t.reading.status == HEUKELVOS_TIME_INS
 		&& t.reading.maxerror == c.maxerror && t.reading.esterror == c.esterror
-		&& none.refusal == HEUKELVOS_STATE && none.reading.seconds == 0 && none.reading.micros == 0
+		&& none.refusal == HEUKELVOS_REFUSED_STATE && none.reading.seconds == 0 && none.reading.micros == 0
 		&& none.reading.status == HEUKELVOS_TIME_BAD && none.reading.maxerror == 0 && none.reading.esterror == 0
-		&& heukelvos_set(c, UINT64_C(1) << 32, 0).refusal == HEUKELVOS_TIME && same(heukelvos_set(c, 0, 1000000).clock, c);
+		&& heukelvos_set(c, UINT64_C(1) << 32, 0).refusal == HEUKELVOS_REFUSED_TIME && same(heukelvos_set(c, 0, 1000000).clock, c);
 }
 
 /* The day of calls on one lent clock. With `history` the events, else the lines. */

@@ -25,7 +25,7 @@ same_numbers() {
         [ "$in_header" = "$value" ] || { echo "$name is $value in the crates and $in_header in the header"; return 1; }
         compared=$((compared + 1))
     done <"$work/crates"
-    [ "$compared" -ge 18 ] || { echo "only $compared constants were found in both"; return 1; }
+    [ "$compared" -ge 19 ] || { echo "only $compared constants were found in both"; return 1; }
 }
 
 # The header has a name for each refusal of the reference, and no other number.
@@ -37,7 +37,11 @@ same_refusals() {
 
 plain_c() { echo '#include "heukelvos.h"' | gcc -std=c99 -Wall -Wextra -Wpedantic -Werror -fsyntax-only -Ic -x c -; }
 
-plain_cplusplus() { echo '#include "heukelvos.h"' | g++ -Wall -Wextra -Wpedantic -Werror -fsyntax-only -Ic -x c++ -; }
+# Each type by its own name, which in C++ a function of the same name would hide.
+plain_cplusplus() {
+    { echo '#include "heukelvos.h"' && sed -n 's/^struct \(heukelvos_[a-z_]*\) {$/extern \1 a_\1;/p' c/heukelvos.h; } |
+        g++ -Wall -Wextra -Wpedantic -Werror -fsyntax-only -Ic -x c++ -
+}
 
 built() {
     [ -f "$library" ] || { echo "there is no $library: run 'rt staticlib heukelvos'"; return 1; }
