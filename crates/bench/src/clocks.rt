@@ -1,13 +1,13 @@
-// Ticks and requests.
+// Ticks, one by one and many in one call, and requests.
 use crate::sum::mix;
 use crate::sum::mix_clock;
 use crate::values::begun;
 use crate::values::number_at;
-use crate::values::numbers;
 use clock::AskedMicros;
+use clock::CaughtUp;
 use clock::Clock;
 use clock::Outcome;
-use clock::run_ticks;
+use clock::catch_up;
 use clock::tick;
 use number::unmap;
 use request::AskedFrequency;
@@ -15,24 +15,35 @@ use request::AskedOffset;
 use request::Request;
 use request::adjust;
 
-// One tick, or n of them in one call.
-fn ticked(c: Clock, n: u64) -> Outcome {
-    if n == 1 {
-        return tick(c);
-    }
-    run_ticks(c, n)
-}
-
-// Calls of n ticks each.
-pub(crate) fn ticks(count: u64, n: u64) -> u64 {
-    let mut c = begun(&numbers());
+pub(crate) fn ticks(values: &[u64; 64], count: u64) -> u64 {
+    let mut c = begun(values);
     let mut sum: u64 = 0;
     let mut i: u64 = 0;
     while i < count {
-        let o = ticked(c, n);
+        let o = tick(c);
         let next = o.clock;
         c = next;
         sum = mix(mix(sum, o.refusal as u64), c.micros.0 as u64);
+        i += 1;
+    }
+    mix_clock(sum, c)
+}
+
+fn mix_caught_up(sum: u64, r: CaughtUp) -> u64 {
+    let s = mix(mix(sum, r.refusal as u64), r.count);
+    mix(mix(s, r.tick_refusal as u64), r.clock.micros.0 as u64)
+}
+
+// Calls of `ceiling` ticks each. Of a second and of many alike, since what is called at two places of a program is kept apart from both.
+pub(crate) fn catch_ups(values: &[u64; 64], ceiling: u64, count: u64) -> u64 {
+    let mut c = begun(values);
+    let mut sum: u64 = 0;
+    let mut i: u64 = 0;
+    while i < count {
+        let r = catch_up(c, ceiling, false);
+        sum = mix_caught_up(sum, r);
+        let next = r.clock;
+        c = next;
         i += 1;
     }
     mix_clock(sum, c)
@@ -72,13 +83,12 @@ pub(crate) struct Requested {
     pub(crate) clock: Clock,
 }
 
-pub(crate) fn after_requests(count: u64) -> Requested {
-    let values = numbers();
-    let mut c = begun(&values);
+pub(crate) fn after_requests(values: &[u64; 64], count: u64) -> Requested {
+    let mut c = begun(values);
     let mut sum: u64 = 0;
     let mut i: u64 = 0;
     while i < count {
-        let asked = request_of(&values, i);
+        let asked = request_of(values, i);
         i += 1;
         let o = adjust(c, asked);
         sum = mix_outcome(sum, o);
@@ -87,7 +97,7 @@ pub(crate) fn after_requests(count: u64) -> Requested {
     Requested { sum: sum, clock: c }
 }
 
-pub(crate) fn requests(count: u64) -> u64 {
-    let r = after_requests(count);
+pub(crate) fn requests(values: &[u64; 64], count: u64) -> u64 {
+    let r = after_requests(values, count);
     mix_clock(r.sum, r.clock)
 }

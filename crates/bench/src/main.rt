@@ -9,6 +9,7 @@ mod values;
 
 ghost use Prim.Native.Nat.{_≤_};
 ghost use lib.ListN.{length};
+use clock::MAX_CEILING;
 use libc::STDIN_FILENO;
 use libc::STDOUT_FILENO;
 
@@ -63,16 +64,33 @@ enum Answer {
     NoOperation,
 }
 
+// 0, since the words are of ASCII; the compiler cannot know it.
+fn above_ascii(line: &[u8]) -> u8 {
+    if line.len() == 0 {
+        return 0;
+    }
+    line[0] / 128
+}
+
+// How many ticks the calls of a word make: a second's, or the most that a catch-up may be asked for.
+fn ceiling_of(line: &[u8]) -> u64 {
+    if starts_with(line, b"second ") {
+        return 256;
+    }
+    MAX_CEILING
+}
+
 fn run(line: &[u8]) -> Answer {
     let count = count_of(line);
+    let values = values::numbers(above_ascii(line));
     if starts_with(line, b"tick ") {
-        return Answer::Checksum(clocks::ticks(count, 1));
+        return Answer::Checksum(clocks::ticks(&values, count));
     }
-    if starts_with(line, b"second ") {
-        return Answer::Checksum(clocks::ticks(count, 256));
+    if starts_with(line, b"second ") | starts_with(line, b"catch-up ") {
+        return Answer::Checksum(clocks::catch_ups(&values, ceiling_of(line), count));
     }
     if starts_with(line, b"request ") {
-        return Answer::Checksum(clocks::requests(count));
+        return Answer::Checksum(clocks::requests(&values, count));
     }
     if starts_with(line, b"label-write ") {
         return Answer::Checksum(labels::writes(count));
@@ -81,10 +99,10 @@ fn run(line: &[u8]) -> Answer {
         return Answer::Checksum(labels::reads(count));
     }
     if starts_with(line, b"record-write ") {
-        return Answer::Checksum(records::writes(count));
+        return Answer::Checksum(records::writes(&values, count));
     }
     if starts_with(line, b"record-read ") {
-        return Answer::Checksum(records::reads(count));
+        return Answer::Checksum(records::reads(&values, count));
     }
     if starts_with(line, b"number-") {
         return Answer::Checksum(numbers::round_trips(least_number(line), count));

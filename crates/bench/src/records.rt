@@ -4,7 +4,6 @@ ghost use lib.ListN.{length};
 use crate::clocks::after_requests;
 use crate::sum::mix;
 use crate::sum::mix_clock;
-use crate::values::numbers;
 use crate::values::small;
 use clock::Clock;
 use clock::Micros;
@@ -28,16 +27,15 @@ fn moved(c: Clock, values: &[u64; 64], k: u64) -> Clock {
 }
 
 // 64 clocks after more and more requests.
-fn clocks() -> [Clock; 64]
+fn clocks(values: &[u64; 64]) -> [Clock; 64]
     ensures { λ r. ⌜ length r ≡ 64 ⌝ }
 {
-    let values = numbers();
     let mut all = [fresh(); 64];
     let mut i: usize = 0;
     while i < 64 {
         let k = i as u64;
-        let r = after_requests(97 * k);
-        all[i] = moved(r.clock, &values, k);
+        let r = after_requests(values, 97 * k);
+        all[i] = moved(r.clock, values, k);
         i += 1;
     }
     all
@@ -48,8 +46,8 @@ fn mix_saved(sum: u64, s: Saved) -> u64 {
 }
 
 // Of each record two bytes are taken, at places that change with i and meet all of them: so all must have been written.
-pub(crate) fn writes(count: u64) -> u64 {
-    let all = clocks();
+pub(crate) fn writes(values: &[u64; 64], count: u64) -> u64 {
+    let all = clocks(values);
     let mut buf = [0u8; 46];
     let mut sum: u64 = 0;
     let mut i: u64 = 0;
@@ -64,11 +62,11 @@ pub(crate) fn writes(count: u64) -> u64 {
 }
 
 // Writes 64 records, 64 bytes apart, and gives the length of each.
-fn fill_records(bytes: &mut [u8]) -> [usize; 64]
+fn fill_records(values: &[u64; 64], bytes: &mut [u8]) -> [usize; 64]
     requires { ⌜ length (now bytes) ≡ 4096 ⌝ }
     ensures { λ r. ⌜ (length (now (bytes .exit)) ≡ 4096) × (length r ≡ 64) ⌝ }
 {
-    let all = clocks();
+    let all = clocks(values);
     let mut lengths = [0usize; 64];
     let mut i: usize = 0;
     while i < 64 {
@@ -80,9 +78,9 @@ fn fill_records(bytes: &mut [u8]) -> [usize; 64]
     lengths
 }
 
-pub(crate) fn reads(count: u64) -> u64 {
+pub(crate) fn reads(values: &[u64; 64], count: u64) -> u64 {
     let mut bytes = [0u8; 4096];
-    let lengths = fill_records(&mut bytes);
+    let lengths = fill_records(values, &mut bytes);
     let mut sum: u64 = 0;
     let mut i: u64 = 0;
     while i < count {

@@ -6,12 +6,12 @@ use clock::Micros;
 use clock::OffsetUnits;
 use clock::PhaseUnits;
 
-// The numbers 0 to 63.
-pub(crate) fn numbers() -> [u64; 64] {
+// The numbers from `first`, which is 0, on: it is taken from the input, so that the compiler cannot work them out.
+pub(crate) fn numbers(first: u8) -> [u64; 64] {
     let mut values = [0u64; 64];
     let mut i: usize = 0;
     while i < 64 {
-        values[i] = i as u64;
+        values[i] = first as u64 + i as u64;
         i += 1;
     }
     values

@@ -5,10 +5,10 @@ use Rattle.bench.proofs.clocks.after_requests.Statement.{statement}
 use Rattle.bench.proofs.clocks.after_requests.Tie as tie
 
 abbrev Inv-loop : tie.InvT-loop
-Inv-loop count values c₀ sum₀ i₀ c sum i = i ≤ count
+Inv-loop values count c₀ sum₀ i₀ c sum i = i ≤ count
 
 abbrev μ-loop : tie.MeasureT-loop
-μ-loop count values c₀ sum₀ i₀ c sum i = count - i
+μ-loop values count c₀ sum₀ i₀ c sum i = count - i
 
 pub after-requests-spec : {M : Type 1} → statement M
 after-requests-spec =
@@ -16,7 +16,6 @@ after-requests-spec =
     (tie.spec
     Inv-loop
     μ-loop
-    (λ c κs. search needs)
     (λ c κs. search needs)
     (λ c. search needs)
     (λ c κs. search needs)

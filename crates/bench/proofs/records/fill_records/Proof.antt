@@ -7,10 +7,10 @@ use Rattle.bench.proofs.records.fill_records.Statement.{statement}
 use Rattle.bench.proofs.records.fill_records.Tie as tie
 
 abbrev Inv-loop : tie.InvT-loop
-Inv-loop bytes₀ all lengths₀ i₀ bytes lengths i = (i ≤ 64) × (length all ≡ 64) × (length bytes ≡ 4096) × (length lengths ≡ 64)
+Inv-loop values bytes₀ all lengths₀ i₀ bytes lengths i = (i ≤ 64) × (length all ≡ 64) × (length bytes ≡ 4096) × (length lengths ≡ 64)
 
 abbrev μ-loop : tie.MeasureT-loop
-μ-loop bytes₀ all lengths₀ i₀ bytes lengths i = 64 - i
+μ-loop values bytes₀ all lengths₀ i₀ bytes lengths i = 64 - i
 
 pub fill-records-spec : {M : Type 1} → statement M
 fill-records-spec =
@@ -31,6 +31,6 @@ fill-records-spec =
     (λ c. search needs)
     (λ c. search needs)
     (λ c. search needs)
-    (λ c. search needs)
+    (λ c. (search needs, search needs, search needs, search needs))
     (λ c. search needs)
     (λ c. search needs))

@@ -7,10 +7,10 @@ use Rattle.bench.proofs.records.reads.Statement.{statement}
 use Rattle.bench.proofs.records.reads.Tie as tie
 
 abbrev Inv-loop : tie.InvT-loop
-Inv-loop count bytes lengths sum₀ i₀ sum i = (i ≤ count) × (length bytes ≡ 4096) × (length lengths ≡ 64)
+Inv-loop values count bytes lengths sum₀ i₀ sum i = (i ≤ count) × (length bytes ≡ 4096) × (length lengths ≡ 64)
 
 abbrev μ-loop : tie.MeasureT-loop
-μ-loop count bytes lengths sum₀ i₀ sum i = count - i
+μ-loop values count bytes lengths sum₀ i₀ sum i = count - i
 
 pub reads-spec : {M : Type 1} → statement M
 reads-spec =

@@ -7,10 +7,10 @@ use Rattle.bench.proofs.records.writes.Statement.{statement}
 use Rattle.bench.proofs.records.writes.Tie as tie
 
 abbrev Inv-loop : tie.InvT-loop
-Inv-loop count all buf₀ sum₀ i₀ buf sum i = (i ≤ count) × (length all ≡ 64) × (length buf ≡ 46)
+Inv-loop values count all buf₀ sum₀ i₀ buf sum i = (i ≤ count) × (length all ≡ 64) × (length buf ≡ 46)
 
 abbrev μ-loop : tie.MeasureT-loop
-μ-loop count all buf₀ sum₀ i₀ buf sum i = count - i
+μ-loop values count all buf₀ sum₀ i₀ buf sum i = count - i
 
 pub writes-spec : {M : Type 1} → statement M
 writes-spec =

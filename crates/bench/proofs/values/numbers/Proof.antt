@@ -5,10 +5,10 @@ use Rattle.bench.proofs.values.numbers.Statement.{statement}
 use Rattle.bench.proofs.values.numbers.Tie as tie
 
 abbrev Inv-loop : tie.InvT-loop
-Inv-loop values₀ i₀ values i = i ≤ 64
+Inv-loop first values₀ i₀ values i = i ≤ 64
 
 abbrev μ-loop : tie.MeasureT-loop
-μ-loop values₀ i₀ values i = 64 - i
+μ-loop first values₀ i₀ values i = 64 - i
 
 pub numbers-spec : {M : Type 1} → statement M
 numbers-spec =
@@ -16,6 +16,7 @@ numbers-spec =
     (tie.spec
     Inv-loop
     μ-loop
+    (λ c. search needs)
     (λ c. search needs)
     (λ c. search needs)
     (λ c. search needs)
