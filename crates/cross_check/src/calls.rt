@@ -2,12 +2,15 @@
 use crate::first::same_event;
 use crate::first::same_start;
 use crate::first::same_ticks;
+use crate::many::event;
+use crate::many::ticks;
+use crate::random::catch_up_row;
 use crate::random::draw;
 use crate::random::row;
 use crate::random::state;
+use crate::rules::State;
 use crate::rules::fresh;
-use crate::rules::step;
-use crate::rules::ticks;
+use crate::signed::minus;
 use crate::signed::pick;
 
 // The refusal that the second implementation gave, and whether the first gave the same answer.
@@ -16,23 +19,42 @@ pub(crate) struct Verdict {
     pub(crate) same: bool,
 }
 
-// An event of a code, on a clock that need not be sound.
-pub(crate) fn event_on_any(case: u64, code: u64) -> Verdict {
-    let s = state(case);
-    let row = row(case, code);
-    let a = step(s, &row);
+// What both answer to an event.
+fn compared(s: State, row: &[u64; 13]) -> Verdict {
+    let m = event(s, row);
     Verdict {
-        refusal: a.refusal,
-        same: same_event(s, &row, a),
+        refusal: pick(m.refusal == 0, m.tick_refusal, m.refusal),
+        same: same_event(s, row, m),
     }
 }
 
-// About 1,000 of 1,024 are ticks, and half of the others requests.
+// An event of a code, on a clock that need not be sound.
+pub(crate) fn event_on_any(case: u64, code: u64) -> Verdict {
+    compared(state(case), &row(case, code))
+}
+
+// A catch-up, on a clock that need not be sound: once in four early in its second, some 256 ticks from the end.
+pub(crate) fn catch_up(case: u64) -> Verdict {
+    let mut s = state(case);
+    s.micros = pick(draw(case, 84) % 4 == 0, s.micros % 4096, s.micros);
+    compared(s, &row(case, 4))
+}
+
+// A catch-up of as many ticks as may be, past every rollover: half of them from less than 300 seconds before the last.
+pub(crate) fn long_catch_up(case: u64) -> Verdict {
+    let mut s = state(case);
+    let v = draw(case, 85);
+    s.seconds = pick(v % 2 == 0, minus(4294967295, v / 2 % 300), s.seconds);
+    compared(s, &catch_up_row(minus(65536, v / 1024 % 2), 0))
+}
+
+// About 1,000 of 1,024 are ticks, half of the others requests, and a quarter catch-ups.
 fn some_code(case: u64) -> u64 {
     let v = draw(case, 81);
-    let other = match v / 4096 % 4 {
+    let other = match v / 4096 % 8 {
         0 => 1,
         3 => 3,
+        1 | 2 => 4,
         _ => 2,
     };
     pick(v % 4096 < 96, other, 0)
@@ -47,10 +69,10 @@ pub(crate) fn list(case: u64) -> Verdict {
     while k < 5000 {
         let c = case % 65536 * 5000 + k;
         let row = row(c, some_code(c));
-        let a = step(s, &row);
-        same = same & same_event(s, &row, a);
-        refusal = pick(a.refusal == 0, refusal, a.refusal);
-        s = a.state;
+        let m = event(s, &row);
+        same = same & same_event(s, &row, m);
+        refusal = pick(m.refusal == 0, refusal, m.refusal);
+        s = m.state;
         k += 1;
     }
     Verdict {

@@ -1,6 +1,7 @@
 // The first implementation's calls, each beside what the second answers. No other file names the first's crates.
 use crate::dates::Label;
 use crate::form::Number;
+use crate::many::Many;
 use crate::replay::Replayed;
 use crate::replay::caught_up;
 use crate::rules::Answer;
@@ -13,6 +14,7 @@ use crate::signed::unmapped;
 use crate::signed::wide;
 use calendar::Found;
 use clock::AskedMicros;
+use clock::CaughtUp;
 use clock::Clock;
 use clock::Frequency;
 use clock::Micros;
@@ -20,6 +22,7 @@ use clock::OffsetUnits;
 use clock::Outcome;
 use clock::PhaseUnits;
 use clock::Reading;
+use event::Call;
 use event::Event;
 use number::Decoded;
 use playback::Filling;
@@ -120,28 +123,40 @@ fn request_of(row: &[u64; 13]) -> Request {
     }
 }
 
-// The event of a row: code 0 a tick, 1 a setting, 2 a request, 3 a reading.
+// The event of a row: code 0 a tick, 1 a setting, 2 a request, 3 a reading, 4 a catch-up.
 fn event_of(row: &[u64; 13]) -> Event {
     let code = row[0];
     match code {
-        0 => Event::Tick,
-        1 => Event::Setting(row[1], AskedMicros(row[2])),
-        2 => Event::Request(request_of(row)),
-        _ => Event::Reading,
+        0 => Event::Call(Call::Tick),
+        1 => Event::Call(Call::Setting(row[1], AskedMicros(row[2]))),
+        2 => Event::Call(Call::Request(request_of(row))),
+        4 => Event::CatchUp(row[1], row[2] == 1),
+        _ => Event::Call(Call::Reading),
+    }
+}
+
+fn single(o: Outcome) -> CaughtUp {
+    let after = o.clock;
+    CaughtUp {
+        refusal: o.refusal,
+        count: 0,
+        tick_refusal: 0,
+        clock: after,
     }
 }
 
 // The event of a row by its own call.
-fn called(c: Clock, row: &[u64; 13]) -> Outcome {
+fn called(c: Clock, row: &[u64; 13]) -> CaughtUp {
     let code = row[0];
     match code {
-        0 => clock::tick(c),
-        1 => clock::set(c, row[1], AskedMicros(row[2])),
-        2 => request::adjust(c, request_of(row)),
-        _ => Outcome {
+        0 => single(clock::tick(c)),
+        1 => single(clock::set(c, row[1], AskedMicros(row[2]))),
+        2 => single(request::adjust(c, request_of(row))),
+        4 => clock::catch_up(c, row[1], row[2] == 1),
+        _ => single(Outcome {
             refusal: clock::read(c).refusal,
             clock: c,
-        },
+        }),
     }
 }
 
@@ -150,18 +165,28 @@ fn same_told(a: Answer, c: Clock) -> bool {
     let t = clock::read(c);
     let mut same = clock::in_range(c) == (a.refusal == 0);
     same = same & same_byte(a.refusal, t.refusal);
-    same & same_reading(shown(a, 3), t.reading)
+    same & same_reading(shown(a.refusal, a.state, 3), t.reading)
 }
 
-// An event by its own call and as a step of a list, where the second has answered `a`; and the clock that it meets.
-pub(crate) fn same_event(s: State, row: &[u64; 13], a: Answer) -> bool {
+fn same_many(m: Many, r: CaughtUp) -> bool {
+    let same = same_byte(m.refusal, r.refusal) & same_clock(m.state, r.clock);
+    same & (m.count == r.count) & same_byte(m.tick_refusal, r.tick_refusal)
+}
+
+// An event by its own call and as a step of a list, where the second has answered `m`; and the clock that it meets.
+pub(crate) fn same_event(s: State, row: &[u64; 13], m: Many) -> bool {
     let c = clock_of(s);
-    let o = called(c, row);
+    let mut same = same_told(reading(s), c) & same_many(m, called(c, row));
     let e = event::step(c, event_of(row));
-    let mut same = same_told(reading(s), c);
-    same = same & same_byte(a.refusal, o.refusal) & same_clock(a.state, o.clock);
-    same = same & same_byte(a.refusal, e.refusal) & same_clock(a.state, e.clock);
-    same & same_reading(shown(a, row[0]), e.reading)
+    let after = e.clock;
+    let stepped = CaughtUp {
+        refusal: e.refusal,
+        count: e.count,
+        tick_refusal: e.tick_refusal,
+        clock: after,
+    };
+    same = same & same_many(m, stepped);
+    same & same_reading(shown(m.refusal, m.state, row[0]), e.reading)
 }
 
 // The ranges' ends, the codes and the units that a caller is told.
@@ -177,7 +202,7 @@ fn same_limits() -> bool {
     same = same & (t.ok == 0) & (t.ins == 1) & (t.del == 2) & (t.oop == 3) & (t.bad == 4);
     same = same & (u.phase == 268435456) & (u.offset == 16384) & (u.frequency == 16777216);
     let r = playback::run_limits();
-    same = same & (r.history == 65536) & (r.line == 30);
+    same = same & (r.history == 65536) & (r.line == 30) & (clock::MAX_CEILING == 65536);
     same & (u.second == 1000000) & (u.day == 86400)
 }
 

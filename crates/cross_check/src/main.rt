@@ -1,13 +1,15 @@
 // Runs a second implementation of document 01 beside the first, over pseudo-random and edge cases, and compares every answer to the last bit.
 // One line for each group says how many cases were compared, how many differ, and how often the second implementation gave each answer:
-// 0 for accepted, else the number of the refusal. The last line is the verdict: it ends in `the two agree` where every group has cases and
-// none of them differs; else it begins with `cross_check: DIFFER` and names the other groups, with how many cases differ of how many.
+// 0 for accepted, else the number of the refusal, of the call or of the tick that ended a catch-up. The last line is the verdict: it ends in
+// `the two agree` where every group has cases and none of them differs; else it begins with `cross_check: DIFFER` and names the other groups,
+// with how many cases differ of how many.
 mod calls;
 mod dates;
 mod first;
 mod form;
 mod histories;
 mod labels;
+mod many;
 mod numbers;
 mod random;
 mod records;
@@ -24,13 +26,15 @@ use libc::STDOUT_FILENO;
 const TOLD: u64 = 5;
 
 // How many groups there are.
-const GROUPS: usize = 16;
+const GROUPS: usize = 18;
 
 // Their names, of sixteen bytes each, in the order of the lines.
-const NAMES: [u8; 256] = *b"ticks           \
+const NAMES: [u8; 288] = *b"ticks           \
 settings        \
 requests        \
 readings        \
+catch-ups       \
+long catch-ups  \
 lists of events \
 many ticks      \
 numbers read    \
@@ -51,17 +55,19 @@ fn cases_of(group: u64) -> u64 {
         1 => 20000,
         2 => 100000,
         3 => 10000,
-        4 => 100,
-        5 => 10000,
-        6 => 100000,
-        7 => 50000,
-        8 => 10000,
-        9 => 30000,
-        10 => 120000,
-        11 => 49711,
-        12 => 50000,
-        13 => 100000,
-        14 => 20000,
+        4 => 30000,
+        5 => 200,
+        6 => 100,
+        7 => 10000,
+        8 => 100000,
+        9 => 50000,
+        10 => 10000,
+        11 => 30000,
+        12 => 120000,
+        13 => 49711,
+        14 => 50000,
+        15 => 100000,
+        16 => 20000,
         _ => 8,
     }
 }
@@ -69,18 +75,20 @@ fn cases_of(group: u64) -> u64 {
 // One case of a group.
 fn run_case(group: u64, case: u64) -> Verdict {
     match group {
-        4 => calls::list(case),
-        5 => calls::many_ticks(case),
-        6 => numbers::read(case),
-        7 => numbers::write(case),
-        8 => numbers::map(case),
-        9 => labels::write(case),
-        10 => labels::read(case),
-        11 => labels::day(case),
-        12 => records::write(case),
-        13 => records::read(case),
-        14 => histories::replay(case),
-        15 => histories::long(case),
+        4 => calls::catch_up(case),
+        5 => calls::long_catch_up(case),
+        6 => calls::list(case),
+        7 => calls::many_ticks(case),
+        8 => numbers::read(case),
+        9 => numbers::write(case),
+        10 => numbers::map(case),
+        11 => labels::write(case),
+        12 => labels::read(case),
+        13 => labels::day(case),
+        14 => records::write(case),
+        15 => records::read(case),
+        16 => histories::replay(case),
+        17 => histories::long(case),
         _ => calls::event_on_any(case, group),
     }
 }
@@ -93,7 +101,7 @@ fn tell(text: [u8; 10], n: u64) {
 
 fn tell_name(group: u64) {
     let names = NAMES;
-    let at = (group % 16 * 16) as usize;
+    let at = (group % 18 * 16) as usize;
     io::write_all(STDOUT_FILENO, &names[at..at + 16]);
 }
 
@@ -124,9 +132,9 @@ fn tell_answer(number: u64, times: u64) {
 }
 
 // How often each answer was given.
-fn tell_answers(met: &[u64; 16]) {
+fn tell_answers(met: &[u64; 17]) {
     let mut k: usize = 0;
-    while k < 16 {
+    while k < 17 {
         tell_answer(k as u64, met[k]);
         k += 1;
     }
@@ -140,8 +148,8 @@ struct Tally {
 }
 
 // The counts after one more case.
-fn noted(group: u64, case: u64, v: Verdict, met: &mut [u64; 16], t: Tally) -> Tally {
-    let k = (v.refusal % 16) as usize;
+fn noted(group: u64, case: u64, v: Verdict, met: &mut [u64; 17], t: Tally) -> Tally {
+    let k = (v.refusal % 17) as usize;
     met[k] = plus(met[k], 1);
     match pick(v.same | (TOLD <= t.differ), 0, 1) {
         0 => (),
@@ -156,7 +164,7 @@ fn noted(group: u64, case: u64, v: Verdict, met: &mut [u64; 16], t: Tally) -> Ta
 // All cases of a group.
 fn run(group: u64) -> Tally {
     let n = cases_of(group);
-    let mut met = [0u64; 16];
+    let mut met = [0u64; 17];
     let mut t = Tally {
         compared: 0,
         differ: 0,

@@ -127,11 +127,36 @@ fn setting_row(case: u64) -> [u64; 13] {
     short_row(1, plus(second(case, 70), above), argument(case, 76, 999999))
 }
 
-// An event of the code: its numbers as they stand in a history.
+// A catch-up: its ceiling, and 1 where it stops after the tick that rolls the second over.
+pub(crate) fn catch_up_row(ceiling: u64, stop: u64) -> [u64; 13] {
+    short_row(4, ceiling, stop)
+}
+
+// 0 to 2, about a second of ticks, about the greatest ceiling, above it, or up to 700.
+fn ceiling(case: u64) -> u64 {
+    let v = draw(case, 86);
+    match draw(case, 87) % 16 {
+        0 | 1 => v % 3,
+        2 | 3 | 4 => 255 + v % 4,
+        5 => 65535 + v % 3,
+        6 => pick(v % 2 == 0, 18446744073709551615, plus(65537, v / 2)),
+        _ => v % 701,
+    }
+}
+
+// Of the ceilings that are not refused those above 700 stop, since the second implementation makes their ticks one by one.
+fn some_catch_up_row(case: u64) -> [u64; 13] {
+    let n = ceiling(case);
+    let many = (700 < n) & (n <= 65536);
+    catch_up_row(n, pick(many, 1, draw(case, 88) % 2))
+}
+
+// An event of the code: its numbers as they stand in a history, which has no catch-ups.
 pub(crate) fn row(case: u64, code: u64) -> [u64; 13] {
     match code {
         1 => setting_row(case),
         2 => request_row(case),
+        4 => some_catch_up_row(case),
         _ => short_row(code, 0, 0),
     }
 }

@@ -5,10 +5,10 @@ use crate::dates::filled;
 use crate::form::Cursor;
 use crate::form::cursor_at;
 use crate::form::take;
+use crate::many::ticks;
 use crate::rules::Answer;
 use crate::rules::State;
 use crate::rules::step;
-use crate::rules::ticks;
 use crate::signed::pick;
 
 // The most ticks that one event of a compared history may ask for: the second implementation runs them one by one.

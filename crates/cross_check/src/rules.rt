@@ -156,7 +156,7 @@ fn rolled(s: State) -> State {
 }
 
 // One tick of a sound clock.
-fn tick(s: State) -> Answer {
+pub(crate) fn tick(s: State) -> Answer {
     let moved = sum(unmapped(s.phase), unmapped(s.adjustment));
     let whole = moved.size / 268435456;
     let grown = plus(s.micros, 3906);
@@ -291,24 +291,10 @@ pub(crate) fn step(s: State, row: &[u64; 13]) -> Answer {
     }
 }
 
-// Up to n ticks, one after the other: the refusal of the first that is refused, or 0; and the clock after the accepted ones.
-pub(crate) fn ticks(s: State, n: u64) -> Answer {
-    let mut a = reading(s);
-    let mut k: u64 = 0;
-    while k < n {
-        if a.refusal != 0 {
-            return a;
-        }
-        a = tick(a.state);
-        k += 1;
-    }
-    a
-}
-
-// What an event shows: the state that an accepted reading tells of, else zeros and status 4.
-pub(crate) fn shown(a: Answer, code: u64) -> State {
-    if (code == 3) & (a.refusal == 0) {
-        return a.state;
+// What an event of a code shows: the state that an accepted reading tells of, else zeros and status 4.
+pub(crate) fn shown(refusal: u64, s: State, code: u64) -> State {
+    if (code == 3) & (refusal == 0) {
+        return s;
     }
     let mut none = fresh();
     none.maximum = 0;

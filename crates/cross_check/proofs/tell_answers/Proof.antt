@@ -5,10 +5,10 @@ use Rattle.cross_check.proofs.tell_answers.Statement.{statement}
 use Rattle.cross_check.proofs.tell_answers.Tie as tie
 
 abbrev Inv-loop : tie.InvT-loop
-Inv-loop met k₀ k = k ≤ 16
+Inv-loop met k₀ k = k ≤ 17
 
 abbrev μ-loop : tie.MeasureT-loop
-μ-loop met k₀ k = 16 - k
+μ-loop met k₀ k = 17 - k
 
 loop-holds : tie.Need-loop-holds Inv-loop μ-loop
 loop-holds c = search needs

@@ -31,8 +31,8 @@ some-code-requires c κs = search needs
 row-requires : tie.Need-row-requires Inv-loop μ-loop
 row-requires c κs = search needs
 
-step-requires : tie.Need-step-requires Inv-loop μ-loop
-step-requires c κs = search needs
+event-requires : tie.Need-event-requires Inv-loop μ-loop
+event-requires c κs = search needs
 
 same-event-requires : tie.Need-same-event-requires Inv-loop μ-loop
 same-event-requires c κs = search needs
@@ -65,7 +65,7 @@ list-spec =
     add-c
     some-code-requires
     row-requires
-    step-requires
+    event-requires
     same-event-requires
     pick-requires
     add-k
