@@ -3,6 +3,9 @@
  * ("tick 1000000"), the same checksums; with the argument `replay`, a history on standard input and the same lines as the program replay.
  * The state is changed in place, as a C programmer would have it; every call judges its state and arguments as document 01 asks.
  *
+ * Many ticks in one call are written three ways: run_judged, run_looped, run_closed. A build has the one that RUN names, the last if none
+ * is named, and runs the words `second` and `catch-up` and the ticks of a replay by it; all builds print the same.
+ *
  * strftime N, strptime N: the label operations by the C library, which judges less; their checksums stand alone.
  */
 #define _GNU_SOURCE
@@ -71,13 +74,8 @@ static bool in_range(const struct clock *c)
 		&& c->status <= BAD;
 }
 
-static void rollover(struct clock *c)
+static inline void leap(struct clock *c)
 {
-	c->seconds++;
-	c->maxerror = c->maxerror <= MAX_ERROR - 100 ? c->maxerror + 100 : MAX_ERROR;
-	int32_t share = c->offset / (1 << (10 + c->constant));
-	c->offset -= share;
-	c->adjustment = 64 * share + c->frequency / 16 + BASE;
 	switch (c->status) {
 	case INS:
 		if (c->seconds % 86400 == 0) {
@@ -95,6 +93,17 @@ static void rollover(struct clock *c)
 		c->status = OK;
 		break;
 	}
+}
+
+/* Apart from the tick, so that the ticks within a second stay short. */
+static __attribute__((noinline)) void rollover(struct clock *c)
+{
+	c->seconds++;
+	c->maxerror = c->maxerror <= MAX_ERROR - 100 ? c->maxerror + 100 : MAX_ERROR;
+	int32_t share = c->offset / (1 << (10 + c->constant));
+	c->offset -= share;
+	c->adjustment = 64 * share + c->frequency / 16 + BASE;
+	leap(c);
 }
 
 static int tick(struct clock *c)
@@ -117,13 +126,140 @@ static int tick(struct clock *c)
 	return 0;
 }
 
+/* Many ticks in one call, three ways: how many were accepted, and the refusal of the one that ended them, or 0. */
+
+#define MAX_CEILING 65536
+#define likely(x) __builtin_expect(!!(x), 1)
+#define unlikely(x) __builtin_expect(!!(x), 0)
+
+struct run {
+	uint64_t count;
+	int refusal;
+};
+
+/* Single ticks: each judges the state. */
+static inline struct run run_judged(struct clock *c, uint64_t n, bool stop)
+{
+	struct run r = { 0, 0 };
+	while (r.count < n) {
+		uint32_t before = c->micros;
+		r.refusal = tick(c);
+		if (r.refusal)
+			break;
+		r.count++;
+		if (stop && c->micros < before)
+			break;
+	}
+	return r;
+}
+
+/* Tick by tick, on a state that was judged once: the two fields that every tick moves in registers. */
+static inline struct run run_looped(struct clock *c, uint64_t n, bool stop)
+{
+	uint64_t left = n;
+	uint32_t micros = c->micros;
+	int32_t phase = c->phase;
+	int refusal = 0;
+	for (; left; left--) {
+		int32_t sum = phase + c->adjustment;
+		int32_t carry = sum / PHASE_US;
+		uint32_t next = micros + 3906 + carry;
+		if (unlikely(next >= 1000000)) {
+			if (c->seconds == LAST_SECOND) {
+				refusal = 3;
+				break;
+			}
+			rollover(c);
+			next -= 1000000;
+			if (stop) {
+				n -= left - 1;
+				left = 1;
+			}
+		}
+		micros = next;
+		phase = sum - carry * PHASE_US;
+	}
+	c->micros = micros;
+	c->phase = phase;
+	return (struct run){ n - left, refusal };
+}
+
+/* A rollover with what does not change in a run worked out before it. */
+static inline void roll(struct clock *c, int32_t divisor, int32_t base)
+{
+	c->seconds++;
+	c->maxerror = c->maxerror <= MAX_ERROR - 100 ? c->maxerror + 100 : MAX_ERROR;
+	int32_t share = c->offset / divisor;
+	c->offset -= share;
+	c->adjustment = 64 * share + base;
+	if (likely(c->status == OK || c->status == BAD))
+		return;
+	leap(c);
+}
+
+/*
+ * On a state that was judged once, the ticks of a second in one step. Between rollovers the adjustment is constant, so j ticks carry
+ * (phase + j adjustments) / 2^28 whole microseconds. A tick adds at most 3,908 us, so none but the last of the j can reach the end.
+ * Of the forms tried this takes the fewest instructions: the state in a copy, the count downwards, the usual case first, in line.
+ */
+static inline __attribute__((always_inline)) struct run run_closed(struct clock *state, uint64_t n, bool stop)
+{
+	struct clock c = *state;
+	const int32_t divisor = 1 << (10 + c.constant), base = c.frequency / 16 + BASE;
+	uint64_t left = n;
+	int refusal = 0;
+	while (left) {
+		uint64_t j = (999999 - c.micros) / 3908 + 1;
+		if (j > left)
+			j = left;
+		int64_t sum = c.phase + (int64_t)j * c.adjustment;
+		int32_t carry = sum / PHASE_US;
+		uint32_t micros = c.micros + 3906 * (uint32_t)j + carry;
+		if (likely(micros >= 1000000)) {
+			if (unlikely(c.seconds == LAST_SECOND)) {
+				j--;
+				sum -= c.adjustment;
+				carry = sum / PHASE_US;
+				c.micros += 3906 * (uint32_t)j + carry;
+				c.phase = sum - carry * (int64_t)PHASE_US;
+				left -= j;
+				refusal = 3;
+				break;
+			}
+			micros -= 1000000;
+			roll(&c, divisor, base);
+			if (stop) {
+				n -= left - j;
+				left = j;
+			}
+		}
+		left -= j;
+		c.micros = micros;
+		c.phase = sum - carry * (int64_t)PHASE_US;
+	}
+	*state = c;
+	return (struct run){ n - left, refusal };
+}
+
+#ifndef RUN
+#define RUN run_closed
+#endif
+
 static int run_ticks(struct clock *c, uint64_t n)
 {
-	for (; n > 0; n--) {
-		int refusal = tick(c);
-		if (refusal)
-			return refusal;
-	}
+	if (!in_range(c))
+		return 1;
+	return RUN(c, n, false).refusal;
+}
+
+static int catch_up(struct clock *c, uint64_t ceiling, bool stop, struct run *r)
+{
+	*r = (struct run){ 0, 0 };
+	if (!in_range(c))
+		return 1;
+	if (ceiling > MAX_CEILING)
+		return 16;
+	*r = RUN(c, ceiling, stop);
 	return 0;
 }
 
@@ -563,6 +699,7 @@ static void fill_numbers(uint64_t *values)
 {
 	for (uint64_t i = 0; i < 64; i++)
 		values[i] = i;
+	__asm__("" : "+m"(*(uint64_t (*)[64])values));
 }
 
 static uint32_t small(const uint64_t *values, uint64_t i)
@@ -602,16 +739,28 @@ static uint64_t ticks(uint64_t count)
 	return mix_clock(sum, &c);
 }
 
-static uint64_t seconds(uint64_t count)
+static uint64_t catch_ups(uint64_t ceiling, uint64_t count)
 {
 	uint64_t values[64], sum = 0;
 	fill_numbers(values);
 	struct clock c = begun(values);
 	for (uint64_t i = 0; i < count; i++) {
-		int refusal = run_ticks(&c, 256);
-		sum = mix(mix(sum, refusal), c.micros);
+		struct run r;
+		int refusal = catch_up(&c, ceiling, false, &r);
+		sum = mix(mix(sum, refusal), r.count);
+		sum = mix(mix(sum, r.refusal), c.micros);
 	}
 	return mix_clock(sum, &c);
+}
+
+static uint64_t seconds(uint64_t count)
+{
+	return catch_ups(256, count);
+}
+
+static uint64_t greatest_catch_ups(uint64_t count)
+{
+	return catch_ups(MAX_CEILING, count);
 }
 
 static uint64_t request_some(struct clock *c, uint64_t count)
@@ -797,6 +946,7 @@ int main(int argc, char **argv)
 	} operations[] = {
 		{ "tick", ticks },
 		{ "second", seconds },
+		{ "catch-up", greatest_catch_ups },
 		{ "request", requests },
 		{ "label-write", label_writes },
 		{ "label-read", label_reads },
