@@ -3,8 +3,8 @@
  * ("tick 1000000"), the same checksums; with the argument `replay`, a history on standard input and the same lines as the program replay.
  * The state is changed in place, as a C programmer would have it; every call judges its state and arguments as document 01 asks.
  *
- * Many ticks in one call are written three ways: run_judged, run_looped, run_closed. A build has the one that RUN names, the last if none
- * is named, and runs the words `second` and `catch-up` and the ticks of a replay by it; all builds print the same.
+ * Many ticks in one call are written run_judged, run_looped, and by closed form twice: run_closed and run_position. A build has the one
+ * that RUN names, run_closed if none is named, and runs the words `second` and `catch-up` and the ticks of a replay by it; all builds print the same.
  *
  * strftime N, strptime N: the label operations by the C library, which judges less; their checksums stand alone.
  */
@@ -126,7 +126,7 @@ static int tick(struct clock *c)
 	return 0;
 }
 
-/* Many ticks in one call, three ways: how many were accepted, and the refusal of the one that ended them, or 0. */
+/* Many ticks in one call: how many were accepted, and the refusal of the one that ended them, or 0. */
 
 #define MAX_CEILING 65536
 #define likely(x) __builtin_expect(!!(x), 1)
@@ -200,7 +200,7 @@ static inline void roll(struct clock *c, int32_t divisor, int32_t base)
 /*
  * On a state that was judged once, the ticks of a second in one step. Between rollovers the adjustment is constant, so j ticks carry
  * (phase + j adjustments) / 2^28 whole microseconds. A tick adds at most 3,908 us, so none but the last of the j can reach the end.
- * Of the forms tried this takes the fewest instructions: the state in a copy, the count downwards, the usual case first, in line.
+ * The state in a copy, the count downwards, the usual case first, in line: of the forms tried the fewest instructions for a second of ticks.
  */
 static inline __attribute__((always_inline)) struct run run_closed(struct clock *state, uint64_t n, bool stop)
 {
@@ -238,6 +238,59 @@ static inline __attribute__((always_inline)) struct run run_closed(struct clock 
 		c.phase = sum - carry * (int64_t)PHASE_US;
 	}
 	*state = c;
+	return (struct run){ n - left, refusal };
+}
+
+static __attribute__((noinline, unused)) struct run run_rest(struct clock *state, uint64_t n, bool stop)
+{
+	return run_closed(state, n, stop);
+}
+
+/*
+ * The place in the second as one number of phase units, and a 64-bit division for the ticks that are left of it: one step a second, for many
+ * seconds the fewest instructions of the forms tried. Where phase or adjustment is negative, as run_closed.
+ */
+static inline __attribute__((always_inline)) struct run run_position(struct clock *state, uint64_t n, bool stop)
+{
+	struct clock c = *state;
+	const int32_t divisor = 1 << (10 + c.constant), base = c.frequency / 16 + BASE;
+	const int64_t second = INT64_C(1000000) << 28;
+	uint64_t left = n;
+	int refusal = 0;
+	bool stopped = false;
+	if (likely(c.phase >= 0)) {
+		int64_t at = ((int64_t)c.micros << 28) + c.phase;
+		while (left && c.adjustment >= 0) {
+			int64_t step = (INT64_C(3906) << 28) + c.adjustment;
+			uint64_t j = (uint64_t)(second - 1 - at) / (uint64_t)step + 1;
+			if (j > left)
+				j = left;
+			at += (int64_t)j * step;
+			if (likely(at >= second)) {
+				if (unlikely(c.seconds == LAST_SECOND)) {
+					at -= step;
+					left -= j - 1;
+					refusal = 3;
+					break;
+				}
+				at -= second;
+				roll(&c, divisor, base);
+				if (stop) {
+					left -= j;
+					stopped = true;
+					break;
+				}
+			}
+			left -= j;
+		}
+		c.micros = at >> 28;
+		c.phase = at & (PHASE_US - 1);
+	}
+	*state = c;
+	if (unlikely(left && !refusal && !stopped)) {
+		struct run r = run_rest(state, left, stop);
+		return (struct run){ n - left + r.count, r.refusal };
+	}
 	return (struct run){ n - left, refusal };
 }
 
