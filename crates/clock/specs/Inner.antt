@@ -7,7 +7,7 @@ use lib.IntN.{ℤ, pos, natAbs, _+ℤ_, _-ℤ_, _*ℤ_}
 use lib.Signed.{quotZ}
 use Rattle.clock.specs.Units.{micros, phaseUnits, offsetUnitsPerMicro, phaseUnitsPerMicro, microsPerSecond}
 use Rattle.clock.specs.Device.{recorder256}
-use Rattle.clock.specs.State.{greatestOffset, inRange}
+use Rattle.clock.specs.State.{greatestOffset, secondRange, microsRange, phaseRange, offsetRange, frequencyRange, adjustmentRange, constantRange, flagRange, zeroUnlessFlag, errorRange, statusRange, inRange}
 use Rattle.clock.specs.Rollover.{shareDivisor, leapSeconds, leapStatus}
 use Rattle.clock.specs.Tick.{microsGrown, phaseLeft}
 use Rattle.clock.specs.Ticks.{ended, ranOf}
@@ -16,6 +16,24 @@ use Rattle.clock.specs.declared.rollover.Leap.{Leap}
 use Rattle.clock.specs.declared.timer.Advance.{Advance}
 use Rattle.clock.specs.declared.run.CaughtUp.{CaughtUp}
 use Rattle.clock.specs.declared.run.Turn.{Turn}
+
+-- the ranges of the fields up to the frequency, and of the others
+abbrev pub firstFieldsRange : Clock → Bool
+firstFieldsRange c =
+    secondRange (c .seconds)
+    && microsRange (c .micros .0)
+    && phaseRange (c .phase .0)
+    && offsetRange (c .offset .0)
+    && frequencyRange (c .frequency .0)
+
+abbrev pub lastFieldsRange : Clock → Bool
+lastFieldsRange c =
+    adjustmentRange (c .adjustment .0)
+    && constantRange (c .constant)
+    && (flagRange (c .updated) && secondRange (c .reftime) && zeroUnlessFlag (c .updated) (c .reftime))
+    && errorRange (c .maxerror .0)
+    && errorRange (c .esterror .0)
+    && statusRange (c .status)
 
 -- the size of the greatest share, of the greatest offset at time constant 0 (offset units)
 abbrev pub greatestShare : ℕ

@@ -6,6 +6,7 @@ use Rattle.clock.specs.declared.units.Micros.{Micros}
 use Rattle.clock.specs.declared.units.OffsetUnits.{OffsetUnits}
 use Rattle.clock.specs.declared.units.PhaseUnits.{PhaseUnits}
 use Rattle.clock.specs.declared.units.Frequency.{Frequency}
+use Rattle.clock.specs.declared.units.AskedMicros.{AskedMicros}
 
 abbrev pub micros : ℕ → Micros
 micros n = record { 0 = n }
@@ -18,6 +19,10 @@ phaseUnits z = record { 0 = z }
 
 abbrev pub frequencyUnits : ℤ → Frequency
 frequencyUnits z = record { 0 = z }
+
+-- microseconds as callers give them, not judged yet
+abbrev pub askedMicros : ℕ → AskedMicros
+askedMicros n = record { 0 = n }
 
 -- "An offset unit is 2^-14 us"
 abbrev pub offsetUnitsPerMicro : ℕ

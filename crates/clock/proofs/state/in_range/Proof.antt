@@ -1,40 +1,24 @@
--- `clock::in_range`: the tests are those of the table, read as signed numbers where the fields are.
+-- `clock::in_range`: the two parts of the table.
+use mathlib.Core.Path.{sym, _∙_}
 use borrow.Author.Needs.{needs}
-use mathlib.Core.Path.{_≡_}
-use mir.Facts.{toZ-ofZ}
-use mir.Syntax.{w32}
-use mir.Val.{SFits, toZ, ofZ}
+use borrow.Author.Tests.{not-true, not-false}
 use Rattle.clock.specs.State.{inRange}
 use Rattle.clock.proofs.state.in_range.Statement.{statement}
 use Rattle.clock.proofs.state.in_range.Tie as tie
 
-phase-fits : (s : tie.Start) → SFits w32 (s .args .c .phase .0)
-phase-fits s = search needs
-
-phase-is : (s : tie.Start) → toZ w32 (ofZ w32 (s .args .c .phase .0)) ≡ s .args .c .phase .0
-phase-is s = toZ-ofZ (phase-fits s)
-
-offset-fits : (s : tie.Start) → SFits w32 (s .args .c .offset .0)
-offset-fits s = search needs
-
-offset-is : (s : tie.Start) → toZ w32 (ofZ w32 (s .args .c .offset .0)) ≡ s .args .c .offset .0
-offset-is s = toZ-ofZ (offset-fits s)
-
-frequency-fits : (s : tie.Start) → SFits w32 (s .args .c .frequency .0)
-frequency-fits s = search needs
-
-frequency-is : (s : tie.Start) → toZ w32 (ofZ w32 (s .args .c .frequency .0)) ≡ s .args .c .frequency .0
-frequency-is s = toZ-ofZ (frequency-fits s)
-
-adjustment-fits : (s : tie.Start) → SFits w32 (s .args .c .adjustment .0)
-adjustment-fits s = search needs
-
-adjustment-is : (s : tie.Start) → toZ w32 (ofZ w32 (s .args .c .adjustment .0)) ≡ s .args .c .adjustment .0
-adjustment-is s = toZ-ofZ (adjustment-fits s)
+first-fields-in-range-requires : tie.Need-first-fields-in-range-requires
+first-fields-in-range-requires c κs = search needs
 
 returns : tie.Need-returns
 unfolding inRange
-returns c = simp (phase-is, offset-is, frequency-is, adjustment-is)
+returns c = simp (sym (c .before .first-fields-in-range .ensures) ∙ not-true _ (c .if1 .taken))
+
+last-fields-in-range-requires : tie.Need-last-fields-in-range-requires
+last-fields-in-range-requires c κs = search needs
+
+returns-2 : tie.Need-returns-2
+unfolding inRange
+returns-2 c = c .last-fields-in-range .ensures ∙ simp (sym (c .before .before .first-fields-in-range .ensures) ∙ not-false _ (c .before .if1 .left))
 
 pub in-range-spec : {M : Type 1} → statement M
-in-range-spec = tie.close (tie.spec returns)
+in-range-spec = tie.close (tie.spec first-fields-in-range-requires returns last-fields-in-range-requires returns-2)
