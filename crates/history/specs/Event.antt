@@ -5,7 +5,7 @@ use mathlib.Core.List.{List}
 use Prim.Native.Nat.{ℕ, suc, _%_}
 use lib.Dec.{eqb}
 use lib.IntN.{ℤ}
-use Rattle.clock.specs.declared.units.AskedMicros.{AskedMicros}
+use Rattle.clock.specs.Units.{askedMicros}
 use Rattle.event.specs.declared.event.Call.the-variants.{Setting, Request, Reading}
 use Rattle.number.specs.Mapping.{unmapped}
 use Rattle.number.specs.Reading.{Found as Number, number, numberAt}
@@ -27,9 +27,6 @@ pub data Found : Type 0 where
 abbrev pub told : Entry → Found
 told (E.Whole event next) = found event next
 told (E.Refused refusal) = refused refusal
-
-abbrev pub askedMicros : ℕ → AskedMicros
-askedMicros n = record { 0 = n }
 
 abbrev pub offsetMicros : ℤ → AskedOffset
 offsetMicros z = record { 0 = z }

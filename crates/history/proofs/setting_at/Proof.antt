@@ -2,11 +2,12 @@
 use mathlib.Core.Path.{_≡_, refl, sym, _∙_, ap}
 use mathlib.Core.List.{List}
 use Prim.Native.Nat.{ℕ}
+use Rattle.clock.specs.Units.{askedMicros}
 use Rattle.number.specs.Reading.{numberAt, told}
 use Rattle.number.specs.Sequence.{then}
 use Rattle.event.specs.declared.event.Call.the-variants.{Setting}
 use Rattle.history.specs.declared.Event.the-variants.{Call}
-use Rattle.history.specs.Event.{refused, Found, found, askedMicros, settingAt}
+use Rattle.history.specs.Event.{refused, Found, found, settingAt}
 use Rattle.number.proofs.Sequence.{Before, went, stopped}
 use borrow.Author.Needs.{needs}
 use Rattle.history.proofs.setting_at.Statement.{statement}
