@@ -56,8 +56,8 @@ AtRollover answers before =
     → MovedAsTaken (bookOf (before ++ (Call Tick ∷ [])) .moved) (takenOff (clockBy answers before) (bookOf before))
 
 -- "At every rollover, before the new share is taken, what the last offset request has moved the clock differs [..]": at each tick of the
--- list, made in a call of its own or among those that a catch-up accepts. No call shows a clock inside a catch-up: there the j ticks before
--- this one are made singly.
+-- list, made in a call of its own or among those that a catch-up accepts; there the j before it are made singly, since nothing answers in
+-- the middle of a catch-up. What a wrong one leaves behind is seen by the lists that go on after it.
 pub record SecondBound (answers : Answers) (events : List Event) : Type 0 where
   pub single : (before later : List Event) → events ≡ before ++ (Call Tick ∷ later) → AtRollover answers before
   pub within : (before later : List Event) (ceiling : ℕ) (stop : Bool) → events ≡ before ++ (CatchUp ceiling stop ∷ later)
