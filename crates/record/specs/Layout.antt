@@ -1,6 +1,6 @@
 -- What a saved record holds: the fields in their order, the numbers and the bytes of a clock. Document 01, "Saved record": "Thirteen
 -- numbers: version 1, then the table's fields in its order (earlier update is two)." "Phase, offset left, frequency and adjustment are
--- first mapped." A record of another version changes this file alone.
+-- first mapped". A record of another version changes this file alone.
 use mathlib.Core.Bool.{Bool, _&&_}
 use mathlib.Core.List.{List, [], _∷_}
 use Prim.Native.Nat.{ℕ}
