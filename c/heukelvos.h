@@ -82,6 +82,7 @@ enum heukelvos_mode {
 #define HEUKELVOS_LEAST_ADJUSTMENT (-168819712) /* phase units a tick */
 #define HEUKELVOS_MOST_ADJUSTMENT 303037440
 #define HEUKELVOS_MAX_CONSTANT 4
+#define HEUKELVOS_MAX_INTERVAL 1024            /* rollovers since the last offset: later ones are not counted */
 #define HEUKELVOS_MAX_ERROR 16000000           /* us, both errors */
 #define HEUKELVOS_MAX_CEILING 65536            /* ticks in one catch-up */
 #define HEUKELVOS_LABEL_SIZE 20                /* bytes of a label */
@@ -99,7 +100,7 @@ struct heukelvos_clock {
 	int32_t adjustment; /* what each tick adds to the phase; phase units, HEUKELVOS_LEAST_ADJUSTMENT to HEUKELVOS_MOST_ADJUSTMENT */
 	uint8_t constant;   /* time constant of the loop, as a power of two: 0 to 4 */
 	uint8_t updated;    /* 1 if an offset was accepted since the last setting, else 0 */
-	uint32_t reftime;   /* the second of that offset; 0 if there is none */
+	uint32_t interval;  /* rollovers since that offset, a leap's too, 0 to HEUKELVOS_MAX_INTERVAL; 0 if there is none */
 	uint32_t maxerror;  /* 0 to 16,000,000 us */
 	uint32_t esterror;  /* 0 to 16,000,000 us */
 	uint8_t status;     /* enum heukelvos_status */
@@ -178,8 +179,10 @@ struct heukelvos_counted heukelvos_catch_up(struct heukelvos_clock *clock, uint6
  * heukelvos_set        the clock set to seconds since 1970, 0 to 4,294,967,295, and microseconds, 0 to 999,999. Frequency and time constant
  *                      stay; phase and offset left are 0, no offset counts as accepted, both errors are 16,000,000 us, the status is BAD.
  *                      Refusals 1, 2
- * heukelvos_adjust     the clock with every selected field's effect, ntp_adjtime() of RFC 1589. A status is written only where the clock is
- *                      OK or BAD is written; an offset turns BAD to OK, unless the same request writes BAD. Refusals 1, 4, 5, 6, 7, 8, 9
+ * heukelvos_adjust     the clock with every selected field's effect, ntp_adjtime() of RFC 1589. An offset (us) moves the frequency by
+ *                      offset x interval / 4^constant, within its range, and the interval is then 0. A status is written only where the
+ *                      clock is OK or BAD is written; an offset turns BAD to OK, unless the same request writes BAD. Refusals 1, 4, 5,
+ *                      6, 7, 8, 9
  * heukelvos_read       what the clock shows. Refusal 1: the reading is then zeros and status 4
  */
 struct heukelvos_clock heukelvos_fresh(void);

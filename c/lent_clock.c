@@ -23,7 +23,7 @@ PLACE(heukelvos_clock, frequency, 16);
 PLACE(heukelvos_clock, adjustment, 20);
 PLACE(heukelvos_clock, constant, 24);
 PLACE(heukelvos_clock, updated, 25);
-PLACE(heukelvos_clock, reftime, 28);
+PLACE(heukelvos_clock, interval, 28);
 PLACE(heukelvos_clock, maxerror, 32);
 PLACE(heukelvos_clock, esterror, 36);
 PLACE(heukelvos_clock, status, 40);
@@ -63,15 +63,15 @@ static bool same(Clock a, Clock b)
 {
 	return a.seconds == b.seconds && a.micros == b.micros && a.phase == b.phase && a.offset == b.offset
 		&& a.frequency == b.frequency && a.adjustment == b.adjustment && a.constant == b.constant
-		&& a.updated == b.updated && a.reftime == b.reftime && a.maxerror == b.maxerror
+		&& a.updated == b.updated && a.interval == b.interval && a.maxerror == b.maxerror
 		&& a.esterror == b.esterror && a.status == b.status;
 }
 
 static void show(const char *name, Clock c)
 {
 	printf("    %s: %" PRIu32 " s %" PRIu32 " us, phase %" PRId32 ", offset %" PRId32 ", frequency %" PRId32
-	       ", adjustment %" PRId32 ", constant %d, updated %d at %" PRIu32 ", errors %" PRIu32 " %" PRIu32 ", status %d\n",
-	       name, c.seconds, c.micros, c.phase, c.offset, c.frequency, c.adjustment, c.constant, c.updated, c.reftime,
+	       ", adjustment %" PRId32 ", constant %d, updated %d, interval %" PRIu32 ", errors %" PRIu32 " %" PRIu32 ", status %d\n",
+	       name, c.seconds, c.micros, c.phase, c.offset, c.frequency, c.adjustment, c.constant, c.updated, c.interval,
 	       c.maxerror, c.esterror, c.status);
 }
 
@@ -138,11 +138,12 @@ static bool catches_up(Clock c, uint64_t ceiling, bool stop)
 	return false;
 }
 
+static const uint64_t midnight = 1798761600; /* 2027-01-01T00:00:00Z */
+
 /* Clocks to catch up: plain ones, one before each kind of leap, some at the end of time, extreme ones. */
-#define CLOCKS 12
+#define CLOCKS 13
 static Clock sound(int n)
 {
-	const uint64_t midnight = 1798761600; /* 2027-01-01T00:00:00Z */
 	Clock c;
 	switch (n) {
 	case 0: return heukelvos_fresh();
@@ -156,6 +157,10 @@ static Clock sound(int n)
 	case 8: return adjusted(HEUKELVOS_LAST_SECOND, 999999, 0, 0, 0, HEUKELVOS_TIME_INS);
 	case 9: return adjusted(0, 0, HEUKELVOS_MAX_FREQUENCY - 1, HEUKELVOS_MAX_OFFSET_MICROS, 0, HEUKELVOS_TIME_OK);
 	case 10: return adjusted(0, 0, 1 - HEUKELVOS_MAX_FREQUENCY, -HEUKELVOS_MAX_OFFSET_MICROS, 0, HEUKELVOS_TIME_OK);
+	case 11:
+		c = adjusted(midnight - 3, 0, 0, 1000, 2, HEUKELVOS_TIME_INS);
+		c.interval = HEUKELVOS_MAX_INTERVAL - 4;
+		return c;
 	default:
 		c = heukelvos_fresh();
 		c.micros = HEUKELVOS_LAST_MICRO;
@@ -165,8 +170,8 @@ static Clock sound(int n)
 	}
 }
 
-/* Clocks with one field out of its range, each of which the library must see in its place. */
-#define FAULTS 15
+/* Clocks with one field out of its range, each of which the library must see in its place; 11 counts from an offset that there is not. */
+#define FAULTS 16
 static Clock unsound(int n)
 {
 	Clock c = heukelvos_fresh();
@@ -182,9 +187,10 @@ static Clock unsound(int n)
 	case 8: c.adjustment = HEUKELVOS_MOST_ADJUSTMENT + 1; break;
 	case 9: c.constant = HEUKELVOS_MAX_CONSTANT + 1; break;
 	case 10: c.updated = 2; break;
-	case 11: c.reftime = 1; break;
-	case 12: c.maxerror = HEUKELVOS_MAX_ERROR + 1; break;
-	case 13: c.esterror = HEUKELVOS_MAX_ERROR + 1; break;
+	case 11: c.interval = 1; break;
+	case 12: c.updated = 1, c.interval = HEUKELVOS_MAX_INTERVAL + 1; break;
+	case 13: c.maxerror = HEUKELVOS_MAX_ERROR + 1; break;
+	case 14: c.esterror = HEUKELVOS_MAX_ERROR + 1; break;
 	default: c.status = HEUKELVOS_TIME_BAD + 1; break;
 	}
 	return c;
@@ -194,7 +200,7 @@ static Clock unsound(int n)
 static bool ends(void)
 {
 	Clock most = heukelvos_fresh(), least = most;
-	most.seconds = most.reftime = HEUKELVOS_LAST_SECOND;
+	most.seconds = HEUKELVOS_LAST_SECOND;
 	most.micros = HEUKELVOS_LAST_MICRO;
 	most.phase = HEUKELVOS_PHASE_PER_MICRO - 1;
 	most.offset = HEUKELVOS_MAX_OFFSET;
@@ -202,6 +208,7 @@ static bool ends(void)
 	most.adjustment = HEUKELVOS_MOST_ADJUSTMENT;
 	most.constant = HEUKELVOS_MAX_CONSTANT;
 	most.updated = 1;
+	most.interval = HEUKELVOS_MAX_INTERVAL;
 	least.phase = 1 - HEUKELVOS_PHASE_PER_MICRO;
 	least.offset = -HEUKELVOS_MAX_OFFSET;
 	least.frequency = -HEUKELVOS_MAX_FREQUENCY;
@@ -223,7 +230,7 @@ static bool layout(void)
 			return printf("    fault %d is not seen\n", n), false;
 	Clock c = adjusted(5, 6, 7, 8, 3, HEUKELVOS_TIME_DEL);
 	return c.seconds == 5 && c.micros == 6 && c.frequency == 7 && c.offset == 8 * HEUKELVOS_OFFSET_PER_MICRO && c.constant == 3
-		&& c.updated == 1 && c.reftime == 5 && c.status == HEUKELVOS_TIME_DEL && heukelvos_in_range(c);
+		&& c.updated == 1 && c.interval == 0 && c.status == HEUKELVOS_TIME_DEL && heukelvos_in_range(c);
 }
 
 static bool million_ticks(void)
@@ -240,6 +247,59 @@ static bool million_ticks(void)
 		}
 	}
 	return lent.status == HEUKELVOS_TIME_OK; /* the inserted second has passed */
+}
+
+/*
+ * Ticks in place as far as some rollovers, where the microseconds fall: each counts one up to the limit, if there was an offset, and no other
+ * tick moves the count.
+ */
+static bool counts(Clock *c, int rollovers)
+{
+	while (rollovers) {
+		Clock before = *c;
+		uint8_t refusal = heukelvos_tick(c);
+		bool rolled = c->micros < before.micros;
+		bool counted = rolled && before.updated && before.interval < HEUKELVOS_MAX_INTERVAL;
+		if (refusal || c->updated != before.updated || c->interval != before.interval + counted) {
+			printf("    a tick that %s, refusal %d\n", rolled ? "rolls over" : "does not roll over", refusal);
+			show("before", before);
+			show("after", *c);
+			return false;
+		}
+		rollovers -= rolled;
+	}
+	return true;
+}
+
+/* The frequency units that an offset of 1,000 us adds to a clock of frequency 0, which it leaves with an interval of 0; else -1. */
+static int32_t gained(Clock c)
+{
+	struct heukelvos_request r = { 0 };
+	r.mode = HEUKELVOS_ADJ_OFFSET;
+	r.offset = 1000;
+	struct heukelvos_outcome o = heukelvos_adjust(c, r);
+	return o.refusal == 0 && c.frequency == 0 && o.clock.updated == 1 && o.clock.interval == 0 ? o.clock.frequency : -1;
+}
+
+/* The interval: rollovers, and not seconds, since the last offset. */
+static bool intervals(void)
+{
+	Clock plain = adjusted(midnight, 0, 0, 1000, 0, HEUKELVOS_TIME_OK), none = heukelvos_set(plain, midnight, 0).clock;
+	Clock inserted = adjusted(midnight - 3, 0, 0, 1000, 0, HEUKELVOS_TIME_INS);
+	Clock deleted = adjusted(midnight - 3, 0, 0, 1000, 0, HEUKELVOS_TIME_DEL);
+	struct heukelvos_request other = { 0 };
+	other.mode = HEUKELVOS_ADJ_MAXERROR;
+	if (!counts(&inserted, 5) || inserted.seconds != midnight + 1 || inserted.interval != 5 || gained(inserted) != 5000)
+		return show("an inserted second", inserted), false;
+	if (!counts(&deleted, 5) || deleted.seconds != midnight + 3 || deleted.interval != 5 || gained(deleted) != 5000)
+		return show("a deleted second", deleted), false;
+	if (!counts(&plain, HEUKELVOS_MAX_INTERVAL) || plain.interval != HEUKELVOS_MAX_INTERVAL || !counts(&plain, 3)
+	    || plain.interval != HEUKELVOS_MAX_INTERVAL || gained(plain) != 1000 * HEUKELVOS_MAX_INTERVAL)
+		return show("the longest interval", plain), false;
+	if (none.updated != 0 || !counts(&none, 3) || none.interval != 0 || gained(none) != 0)
+		return show("no earlier offset", none), false;
+	Clock reset = heukelvos_set(plain, midnight, 0).clock;
+	return heukelvos_adjust(plain, other).clock.interval == HEUKELVOS_MAX_INTERVAL && reset.updated == 0 && reset.interval == 0;
 }
 
 /* A refused tick leaves the lent clock as it was. */
@@ -281,7 +341,7 @@ static uint64_t draw(uint64_t below)
 static Clock spoilt(Clock c)
 {
 	uint32_t any = draw(UINT64_C(1) << 32);
-	switch (draw(8)) {
+	switch (draw(9)) {
 	case 0: c.micros = any; break;
 	case 1: c.phase = (int32_t)any; break;
 	case 2: c.offset = (int32_t)any; break;
@@ -289,6 +349,7 @@ static Clock spoilt(Clock c)
 	case 4: c.adjustment = (int32_t)any; break;
 	case 5: c.updated = any % 4; break;
 	case 6: c.maxerror = any; break;
+	case 7: c.interval = any; break;
 	default: c.status = any % 8; break;
 	}
 	return c;
@@ -301,6 +362,10 @@ static bool random_runs(void)
 		Clock c = adjusted(draw(3) ? draw(UINT64_C(1) << 32) : HEUKELVOS_LAST_SECOND - draw(3), draw(1000000),
 		                   (int64_t)draw(UINT64_C(2) * HEUKELVOS_MAX_FREQUENCY - 1) - HEUKELVOS_MAX_FREQUENCY + 1,
 		                   (int64_t)draw(2 * HEUKELVOS_MAX_OFFSET_MICROS + 1) - HEUKELVOS_MAX_OFFSET_MICROS, draw(5), draw(5));
+		if (draw(4))
+			c.interval = draw(2) ? draw(HEUKELVOS_MAX_INTERVAL + 1) : HEUKELVOS_MAX_INTERVAL - draw(8);
+		else
+			c.updated = 0;
 		if (draw(2))
 			c = heukelvos_caught_up(c, draw(1000), false).clock;
 		if (draw(8) == 0)
@@ -430,6 +495,7 @@ int main(int argc, char **argv)
 		return fprintf(stderr, "usage: lent_clock [history | lines]\n"), 2;
 	check("the library's clock is the header's, field by field", layout());
 	check("a million ticks in place, and by value", million_ticks());
+	check("the rollovers since an offset: ticks in place, leaps, the limit, offsets and settings", intervals());
 	check("ticks that are refused", refused_ticks());
 	check("catch-ups at their edges: lent, by value, by single ticks", edges());
 	check("200,000 catch-ups of random clocks: lent, by value, by single ticks", random_runs());
