@@ -1,6 +1,6 @@
 -- What a saved record holds: the fields in their order, the numbers and the bytes of a clock. Document 01, "Saved record": "Thirteen
 -- numbers: version 1, then the table's fields in its order (earlier update is two)." "Phase, offset left, frequency and adjustment are
--- first mapped". A record of another version changes this file alone.
+-- first mapped". All versions are one layout.
 use mathlib.Core.Bool.{Bool, _&&_}
 use mathlib.Core.List.{List, [], _∷_}
 use Prim.Native.Nat.{ℕ}
@@ -18,17 +18,18 @@ use Rattle.record.specs.declared.groups.Update.{Update}
 use Rattle.record.specs.declared.groups.Errors.{Errors}
 
 -- the version that is written
-abbrev pub version : ℕ
-version = 1
+abbrev pub newest : ℕ
+newest = 1
 
 -- the versions that are read: any other is unknown
 abbrev pub knownVersion : ℕ → Bool
-knownVersion n = eqb n version
+knownVersion n = eqb n newest
 
--- ---- the numbers of a clock
+-- ---- the numbers of a record
 
-unfoldable pub numbersOf : Clock → List ℕ
-numbersOf c =
+-- of a version: those of the clock, but at the two places of the earlier update a flag, and what follows it
+unfoldable pub numbersIn : ℕ → Clock → ℕ → ℕ → List ℕ
+numbersIn version c flag last =
     version
     ∷ c .seconds
     ∷ c .micros .0
@@ -37,16 +38,23 @@ numbersOf c =
     ∷ mapped (c .frequency .0)
     ∷ mapped (c .adjustment .0)
     ∷ c .constant
-    ∷ c .updated
-    ∷ c .reftime
+    ∷ flag
+    ∷ last
     ∷ c .maxerror .0
     ∷ c .esterror .0
     ∷ c .status
     ∷ []
 
--- the record of a clock: the bytes of its numbers, one after the other
-unfoldable pub recordOf : Clock → List ℕ
-recordOf c = bytesOfAll (numbersOf c)
+-- its bytes: those of the numbers, one after the other
+unfoldable pub recordIn : ℕ → Clock → ℕ → ℕ → List ℕ
+recordIn version c flag last = bytesOfAll (numbersIn version c flag last)
+
+-- the record of a clock, as it is written
+abbrev pub numbersOf : Clock → List ℕ
+numbersOf c = numbersIn newest c (c .updated) (c .reftime)
+
+abbrev pub recordOf : Clock → List ℕ
+recordOf c = recordIn newest c (c .updated) (c .reftime)
 
 -- ---- the fields, by groups of two or three: what has been read of each, and what follows it
 

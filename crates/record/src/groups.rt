@@ -9,6 +9,11 @@ use clock::Micros;
 use clock::OffsetUnits;
 use clock::PhaseUnits;
 
+// What stands before the table's fields.
+pub(crate) struct Head {
+    pub version: u32,
+}
+
 pub(crate) struct Time {
     pub seconds: u32,
     pub micros: u32,

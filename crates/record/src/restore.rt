@@ -9,6 +9,7 @@ use crate::field::plain;
 use crate::field::signed;
 use crate::field::version;
 use crate::groups::Errors;
+use crate::groups::Head;
 use crate::groups::Loop;
 use crate::groups::Rate;
 use crate::groups::Time;
@@ -73,18 +74,19 @@ pub fn read(bytes: &[u8]) -> Restored
     ensures { λ r. ⌜ r ≡ readingOf (now (bytes .entry)) ⌝ }
 {
     let d0 = version(bytes);
-    let Field::Value(_, n0) = d0 else {
+    let Field::Value(v, n0) = d0 else {
         return refused(d0);
     };
-    time_fields(bytes, n0)
+    let h = Head { version: v };
+    time_fields(bytes, n0, h)
 }
 
 // Each group of fields takes what was read before it, and hands it on to the next with its own. The groups are small: a call behind more
 // than three fields that may be refused is taken for one that is seldom made, and not inlined.
 
 // Seconds, microseconds and phase.
-fn time_fields(bytes: &[u8], at: usize) -> Restored
-    ensures { λ r. ⌜ r ≡ restored (readFrom fromTime (now (bytes .entry)) at) ⌝ }
+fn time_fields(bytes: &[u8], at: usize, h: Head) -> Restored
+    ensures { λ r. ⌜ r ≡ restored (readFrom (fromTime h) (now (bytes .entry)) at) ⌝ }
 {
     let d1 = plain(bytes, at, LAST_SECOND);
     let Field::Value(seconds, n1) = d1 else {
@@ -103,12 +105,12 @@ fn time_fields(bytes: &[u8], at: usize) -> Restored
         micros: micros,
         phase: phase,
     };
-    loop_fields(bytes, n3, t)
+    loop_fields(bytes, n3, h, t)
 }
 
 // Offset left and frequency.
-fn loop_fields(bytes: &[u8], at: usize, t: Time) -> Restored
-    ensures { λ r. ⌜ r ≡ restored (readFrom (fromLoop t) (now (bytes .entry)) at) ⌝ }
+fn loop_fields(bytes: &[u8], at: usize, h: Head, t: Time) -> Restored
+    ensures { λ r. ⌜ r ≡ restored (readFrom (fromLoop h t) (now (bytes .entry)) at) ⌝ }
 {
     let d1 = plain(bytes, at, MAPPED_OFFSET);
     let Field::Value(offset, n1) = d1 else {
@@ -122,12 +124,12 @@ fn loop_fields(bytes: &[u8], at: usize, t: Time) -> Restored
         offset: offset,
         frequency: frequency,
     };
-    rate_fields(bytes, n2, t, l)
+    rate_fields(bytes, n2, h, t, l)
 }
 
 // Adjustment and time constant.
-fn rate_fields(bytes: &[u8], at: usize, t: Time, l: Loop) -> Restored
-    ensures { λ r. ⌜ r ≡ restored (readFrom (fromRate t l) (now (bytes .entry)) at) ⌝ }
+fn rate_fields(bytes: &[u8], at: usize, h: Head, t: Time, l: Loop) -> Restored
+    ensures { λ r. ⌜ r ≡ restored (readFrom (fromRate h t l) (now (bytes .entry)) at) ⌝ }
 {
     let d1 = signed(bytes, at, RECORDER_256.least.0, MAPPED_ADJUSTMENT);
     let Field::Value(adjustment, n1) = d1 else {
@@ -142,12 +144,12 @@ fn rate_fields(bytes: &[u8], at: usize, t: Time, l: Loop) -> Restored
         adjustment: adjustment,
         constant: constant,
     };
-    update_fields(bytes, n2, t, l, a)
+    update_fields(bytes, n2, h, t, l, a)
 }
 
 // The earlier update: its flag and its second.
-fn update_fields(bytes: &[u8], at: usize, t: Time, l: Loop, a: Rate) -> Restored
-    ensures { λ r. ⌜ r ≡ restored (readFrom (fromUpdate t l a) (now (bytes .entry)) at) ⌝ }
+fn update_fields(bytes: &[u8], at: usize, h: Head, t: Time, l: Loop, a: Rate) -> Restored
+    ensures { λ r. ⌜ r ≡ restored (readFrom (fromUpdate h t l a) (now (bytes .entry)) at) ⌝ }
 {
     let d1 = plain(bytes, at, 1);
     let Field::Value(updated, n1) = d1 else {
@@ -162,12 +164,12 @@ fn update_fields(bytes: &[u8], at: usize, t: Time, l: Loop, a: Rate) -> Restored
         updated: updated,
         reftime: reftime,
     };
-    error_fields(bytes, n2, t, l, a, u)
+    error_fields(bytes, n2, h, t, l, a, u)
 }
 
 // Both errors and the status, which are the last.
-fn error_fields(bytes: &[u8], at: usize, t: Time, l: Loop, a: Rate, u: Update) -> Restored
-    ensures { λ r. ⌜ r ≡ restored (readFrom (fromErrors t l a u) (now (bytes .entry)) at) ⌝ }
+fn error_fields(bytes: &[u8], at: usize, h: Head, t: Time, l: Loop, a: Rate, u: Update) -> Restored
+    ensures { λ r. ⌜ r ≡ restored (readFrom (fromErrors h t l a u) (now (bytes .entry)) at) ⌝ }
 {
     let d1 = plain(bytes, at, MAX_ERROR);
     let Field::Value(maxerror, n1) = d1 else {

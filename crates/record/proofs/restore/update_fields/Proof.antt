@@ -9,6 +9,7 @@ use Rattle.number.proofs.Layouts.{AtField, field-went, field-stopped}
 use Rattle.record.specs.Layout.{updateFields}
 use Rattle.record.specs.Reading.{restored}
 use Rattle.record.specs.Inner.{toldField, upTo, fromUpdate, fromErrors}
+use Rattle.record.specs.declared.groups.Head.{Head}
 use Rattle.record.specs.declared.groups.Time.{Time}
 use Rattle.record.specs.declared.groups.Loop.{Loop}
 use Rattle.record.specs.declared.groups.Rate.{Rate}
@@ -17,18 +18,18 @@ use Rattle.record.proofs.FieldLaws.{read-in, reftime-field}
 use Rattle.record.proofs.restore.update_fields.Statement.{statement}
 use Rattle.record.proofs.restore.update_fields.Tie as tie
 
-opened : (t : Time) (l : Loop) (a : Rate) (s : List ℕ) (at : ℕ) → restored (readFrom (fromUpdate t l a) s at) ≡ restored (readFrom (updateFields (λ u. fromErrors t l a u)) s at)
+opened : (h : Head) (t : Time) (l : Loop) (a : Rate) (s : List ℕ) (at : ℕ) → restored (readFrom (fromUpdate h t l a) s at) ≡ restored (readFrom (updateFields (λ u. fromErrors h t l a u)) s at)
 unfolding fromUpdate
-opened t l a s at = refl
+opened h t l a s at = refl
 
 abbrev at-flag : tie.After-shared-slice-known → AtField restored
 at-flag c =
     let i = c .before .args in
-    record { all = _; range = _; rest = _; bytes = _; at = _; is = opened (i .t) (i .l) (i .a) (i .bytes .now) (i .at) }
+    record { all = _; here = _; range = _; rest = _; bytes = _; at = _; is = opened (i .h) (i .t) (i .l) (i .a) (i .bytes .now) (i .at) }
 
 abbrev at-reftime : tie.After-known-told → AtField restored
 at-reftime c =
-    record { all = _; range = _; rest = _; bytes = _; at = _; is = field-went (at-flag (c .before .before .before .before)) (c .before .before .before .plain .ensures) (ap toldField (c .before .d1 .given .1)) }
+    record { all = _; here = _; range = _; rest = _; bytes = _; at = _; is = field-went (at-flag (c .before .before .before .before)) (c .before .before .before .plain .ensures) (ap toldField (c .before .d1 .given .1)) }
 
 returns : tie.Need-returns
 returns c = field-stopped (at-flag (c .before .before .before .before)) (c .before .before .before .plain .ensures) (ap toldField (c .before .enum-told .given .1)) (c .refused .ensures)
