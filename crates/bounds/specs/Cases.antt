@@ -1,4 +1,4 @@
--- "Marked cases (proved together)", and the two edges at the last second: a table with a row for each, and what it means that a row
+-- "Marked cases (proved together)", the two edges at the last second, and the interval of document 02: a table with a row for each, and what it means that a row
 -- holds. A row starts at a fresh clock, but for the fields that it names. Where it says "rollover", ticks are made up to and with the
 -- next that rolls over.
 use Prim.Native.Nat.{ℕ, zero, suc}
@@ -23,7 +23,7 @@ pub data CountField : Type 0 where
   seconds : CountField
   constant : CountField
   updated : CountField
-  reftime : CountField
+  interval : CountField
   status : CountField
 
 pub data SignedField : Type 0 where
@@ -36,7 +36,7 @@ abbrev pub countCode : CountField → ℕ
 countCode seconds = 0
 countCode constant = 1
 countCode updated = 2
-countCode reftime = 3
+countCode interval = 3
 countCode status = 4
 
 abbrev pub signedCode : SignedField → ℕ
@@ -91,7 +91,7 @@ given ss =
             frequency = frequencyUnits (signedOr ss frequency (freshClock .frequency .0));
             constant = countOr ss constant (freshClock .constant);
           };
-      update = record { updated = countOr ss updated (freshClock .updated); reftime = countOr ss reftime (freshClock .reftime) };
+      update = record { updated = countOr ss updated (freshClock .updated); interval = countOr ss interval (freshClock .interval) };
       errors = errorsOf freshClock;
       status = countOr ss status (freshClock .status);
     })
@@ -152,7 +152,7 @@ abbrev pub countOf : CountField → Clock → ℕ
 countOf seconds c = c .seconds
 countOf constant c = c .constant
 countOf updated c = c .updated
-countOf reftime c = c .reftime
+countOf interval c = c .interval
 countOf status c = c .status
 
 abbrev pub signedOf : SignedField → Clock → ℤ
@@ -218,7 +218,9 @@ asks o =
 abbrev pub set : ℕ → ℕ → Call
 set s u = call.Setting s (record { 0 = u })
 
--- The table of document 01, row by row ("frequency unchanged" at two frequencies), and after it the two edges.
+-- The table of document 01, row by row ("frequency unchanged" at two frequencies; document 02: "the marked interval 5,000 becomes 1,024"),
+-- after it the two edges, and then document 02's interval: across an inserted and a deleted second, up to its limit, set back by an offset, and
+-- none without one.
 abbrev pub markedCases : List Case
 markedCases =
     row []
@@ -233,11 +235,11 @@ markedCases =
     ∷ rollover then (seconds is 1 ∷ left isℤ pos 16383000 ∷ adjustment isℤ pos 67172864 ∷ []) ∷ [])
     ∷ row (left ≔ℤ negℤ (pos 1023) ∷ constant ≔ 0 ∷ frequency ≔ℤ negℤ (pos 1) ∷ [])
     (rollover then (seconds is 1 ∷ left isℤ negℤ (pos 1023) ∷ adjustment isℤ pos 67108864 ∷ []) ∷ [])
-    ∷ row (seconds ≔ 64 ∷ updated ≔ 1 ∷ constant ≔ 4 ∷ [])
+    ∷ row (updated ≔ 1 ∷ interval ≔ 64 ∷ constant ≔ 4 ∷ [])
     (callOf (asks (negℤ (pos 1))) then (refusal 0 ∷ left isℤ negℤ (pos 16384) ∷ frequency isℤ pos 0 ∷ []) ∷ [])
-    ∷ row (seconds ≔ 64 ∷ updated ≔ 1 ∷ constant ≔ 4 ∷ frequency ≔ℤ pos 1000000 ∷ [])
+    ∷ row (updated ≔ 1 ∷ interval ≔ 64 ∷ constant ≔ 4 ∷ frequency ≔ℤ pos 1000000 ∷ [])
     (callOf (asks (negℤ (pos 1))) then (refusal 0 ∷ left isℤ negℤ (pos 16384) ∷ frequency isℤ pos 1000000 ∷ []) ∷ [])
-    ∷ row (seconds ≔ 5000 ∷ updated ≔ 1 ∷ constant ≔ 0 ∷ frequency ≔ℤ pos 0 ∷ [])
+    ∷ row (updated ≔ 1 ∷ interval ≔ 1024 ∷ constant ≔ 0 ∷ frequency ≔ℤ pos 0 ∷ [])
     (callOf (asks (pos 127999)) then (refusal 0 ∷ frequency isℤ pos 131070976 ∷ []) ∷ [])
     ∷ row (phase ≔ℤ pos 268435455 ∷ adjustment ≔ℤ pos 303037440 ∷ [])
     (tickTimes 1 then (carried (pos 2) ∷ micros 3908 ∷ phase isℤ pos 34601983 ∷ []) ∷ [])
@@ -255,6 +257,19 @@ markedCases =
     ∷ row []
     (callOf (set 4294967295 996094) then (refusal 0 ∷ [])
     ∷ tickTimes 1 then (refusal 3 ∷ []) ∷ [])
+    ∷ row (seconds ≔ 86399 ∷ status ≔ statusIns ∷ updated ≔ 1 ∷ interval ≔ 63 ∷ [])
+    (rollover then (seconds is 86399 ∷ interval is 64 ∷ [])
+    ∷ rollover then (seconds is 86400 ∷ interval is 65 ∷ []) ∷ [])
+    ∷ row (seconds ≔ 86398 ∷ status ≔ statusDel ∷ updated ≔ 1 ∷ interval ≔ 1023 ∷ [])
+    (rollover then (seconds is 86400 ∷ interval is 1024 ∷ [])
+    ∷ rollover then (seconds is 86401 ∷ interval is 1024 ∷ []) ∷ [])
+    ∷ row []
+    (rollover then (updated is 0 ∷ interval is 0 ∷ [])
+    ∷ callOf (asks (pos 1000)) then (refusal 0 ∷ updated is 1 ∷ interval is 0 ∷ [])
+    ∷ rollover then (updated is 1 ∷ interval is 1 ∷ [])
+    ∷ callOf (asks (pos 1000)) then (refusal 0 ∷ interval is 0 ∷ [])
+    ∷ rollover then (interval is 1 ∷ [])
+    ∷ callOf (set 0 0) then (refusal 0 ∷ updated is 0 ∷ interval is 0 ∷ []) ∷ [])
     ∷ []
 
 abbrev pub MarkedCases : Type 0

@@ -18,8 +18,8 @@ pub record Ok (c : Clock) : Type 0 where
   pub adjustment : (posPart (c .adjustment .0) ≤ 303037440) × (negPart (c .adjustment .0) ≤ 168819712)
   pub constant : c .constant ≤ 4
   pub updated : c .updated ≤ 1
-  pub reftime : c .reftime ≤ 4294967295
-  pub update : eqb (c .updated) 1 || eqb (c .reftime) 0 ≡ true
+  pub interval : c .interval ≤ 1024
+  pub update : eqb (c .updated) 1 || eqb (c .interval) 0 ≡ true
   pub maxerror : c .maxerror .0 ≤ 16000000
   pub esterror : c .esterror .0 ≤ 16000000
   pub status : c .status ≤ 4
@@ -48,7 +48,7 @@ ok c e =
       adjustment = within-parts _ _ (c .adjustment .0) (a5 .1);
       constant = leb-true _ _ (a6 .1);
       updated = leb-true _ _ (v .0);
-      reftime = leb-true _ _ (v .1);
+      interval = leb-true _ _ (v .1);
       update = u .1;
       maxerror = leb-true _ _ (a8 .1);
       esterror = leb-true _ _ (a9 .1);

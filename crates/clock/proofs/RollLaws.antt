@@ -1,7 +1,7 @@
 -- A rollover: its numbers fit 32 bits, the leap step by its three cases, and the clock stays in its ranges.
 use mathlib.Core.Path.{_≡_, refl}
-use mathlib.Core.Bool.{Bool, true, false, cond}
-use Prim.Native.Nat.{ℕ, _+_, _/_, _%_, _≤_, _<_}
+use mathlib.Core.Bool.{Bool, true, false, cond, _||_}
+use Prim.Native.Nat.{ℕ, _+_, _/_, _%_, _≤_, _<_, min}
 use native.Mathlib.Omega.{arith}
 use native.Mathlib.Nat.{lt-of-le-of-lt, div-le-self, mul-div-le, mul-le-mul-right}
 use borrow.Author.Needs.{needs}
@@ -14,7 +14,7 @@ use mir.Syntax.{w32}
 use mir.Val.{SFits}
 use Rattle.integers.proofs.Parts.{posPart, negPart, parts, one-part, sfits-parts}
 use Rattle.integers.proofs.Ranges.{and-true}
-use Rattle.clock.specs.Rollover.{shareDivisor, share, offsetLeft, adjustmentFor, inserts, deletes, leapSeconds, leapStatus, rolledOver}
+use Rattle.clock.specs.Rollover.{shareDivisor, share, offsetLeft, intervalGrown, adjustmentFor, inserts, deletes, leapSeconds, leapStatus, rolledOver}
 use Rattle.clock.specs.declared.state.Clock.{Clock}
 use Rattle.clock.proofs.Ok.{Ok}
 
@@ -109,12 +109,19 @@ module _ (status s : ℕ) where
   leap-status h (del e f) = simp (e, f) (omega arith)
   leap-status h (none e f) = simp (e, f) (unless-oop (eqb status 3) h)
 
+-- the interval stays in its range, and 0 where there is no earlier update
+interval-by : (b : Bool) (n : ℕ) → n ≤ 1024 → b || eqb n 0 ≡ true
+    → (cond b (min (n + 1) 1024) n ≤ 1024) × (b || eqb (cond b (min (n + 1) 1024) n) 0 ≡ true)
+interval-by true n h e = (omega arith, refl)
+interval-by false n h e = (h, e)
+
 pub rolled-ok : (c : Clock) → Ok c → c .seconds < 4294967295 → Ok (rolledOver c)
 unfolding rolledOver
 rolled-ok c k h =
     search (
       needs,
       leap-seconds (c .status) (c .seconds + 1) (omega arith) (leapCase (c .status) (c .seconds + 1)),
+      interval-by (eqb (c .updated) 1) (c .interval) (k .interval) (k .update),
       rest-parts c k,
       adjustment-parts (share c) (c .frequency .0) (share-parts c k) (k .frequency),
       leap-status (c .status) (c .seconds + 1) (k .status) (leapCase (c .status) (c .seconds + 1)),

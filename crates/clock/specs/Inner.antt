@@ -7,7 +7,7 @@ use lib.IntN.{ℤ, pos, natAbs, _+ℤ_, _-ℤ_, _*ℤ_}
 use lib.Signed.{quotZ}
 use Rattle.clock.specs.Units.{micros, phaseUnits, offsetUnitsPerMicro, phaseUnitsPerMicro, microsPerSecond}
 use Rattle.clock.specs.Device.{recorder256}
-use Rattle.clock.specs.State.{greatestOffset, secondRange, microsRange, phaseRange, offsetRange, frequencyRange, adjustmentRange, constantRange, flagRange, zeroUnlessFlag, errorRange, statusRange, inRange}
+use Rattle.clock.specs.State.{greatestOffset, secondRange, microsRange, phaseRange, offsetRange, frequencyRange, adjustmentRange, constantRange, flagRange, intervalRange, zeroUnlessFlag, errorRange, statusRange, inRange}
 use Rattle.clock.specs.Rollover.{shareDivisor, leapSeconds, leapStatus}
 use Rattle.clock.specs.Tick.{microsGrown, phaseLeft}
 use Rattle.clock.specs.Ticks.{ended, ranOf}
@@ -30,7 +30,7 @@ abbrev pub lastFieldsRange : Clock → Bool
 lastFieldsRange c =
     adjustmentRange (c .adjustment .0)
     && constantRange (c .constant)
-    && (flagRange (c .updated) && secondRange (c .reftime) && zeroUnlessFlag (c .updated) (c .reftime))
+    && (flagRange (c .updated) && intervalRange (c .interval) && zeroUnlessFlag (c .updated) (c .interval))
     && errorRange (c .maxerror .0)
     && errorRange (c .esterror .0)
     && statusRange (c .status)

@@ -2,7 +2,7 @@
 use Prim.Native.Nat.{ℕ, _*_}
 use lib.IntN.{pos, negℤ}
 use Rattle.clock.specs.Units.{offsetUnitsPerMicro, phaseUnitsPerMicro, frequencyUnitsPerPpm, microsPerSecond, secondsPerDay}
-use Rattle.clock.specs.State.{lastSecond, lastMicro, greatestOffset, greatestFrequency, greatestConstant, greatestError, statusOk, statusIns, statusDel, statusOop, statusBad}
+use Rattle.clock.specs.State.{lastSecond, lastMicro, greatestOffset, greatestFrequency, greatestConstant, longestInterval, greatestError, statusOk, statusIns, statusDel, statusOop, statusBad}
 use Rattle.clock.specs.declared.limits.Scales.{Scales}
 use Rattle.clock.specs.declared.limits.Ends.{Ends}
 use Rattle.clock.specs.declared.limits.Limits.{Limits}
@@ -32,6 +32,7 @@ limits =
       offset = ends (greatestOffset * offsetUnitsPerMicro);
       frequency = ends greatestFrequency;
       constant = greatestConstant;
+      interval = longestInterval;
       error = greatestError;
     }
 

@@ -1,4 +1,4 @@
--- "Rollover, in this order."
+-- "Rollover, in this order." Document 02 adds the interval since the earlier update.
 use Prim.Native.Nat.{ℕ, _+_, _-_, _%_, _^_, min}
 use mathlib.Core.Bool.{Bool, _&&_, cond}
 use lib.Dec.{eqb}
@@ -6,7 +6,7 @@ use lib.IntN.{ℤ, pos, _+ℤ_, _-ℤ_, _*ℤ_}
 use lib.Signed.{quotZ}
 use Rattle.clock.specs.Units.{micros, offsetUnits, phaseUnits, secondsPerDay, lastSecondOfDay}
 use Rattle.clock.specs.Device.{recorder256}
-use Rattle.clock.specs.State.{greatestError, statusOk, statusIns, statusDel, statusOop, tuningOf, updateOf, whole}
+use Rattle.clock.specs.State.{greatestError, longestInterval, statusOk, statusIns, statusDel, statusOop, tuningOf, whole}
 use Rattle.clock.specs.declared.state.Clock.{Clock}
 
 -- README.kern's tolerance of 100 ppm: what a second may add to the maximum error (us)
@@ -33,6 +33,11 @@ offsetLeft c = c .offset .0 -ℤ share c
 abbrev pub adjustmentFor : ℤ → ℤ → ℤ
 adjustmentFor s f = recorder256 .scale *ℤ s +ℤ quotZ f (recorder256 .divisor) +ℤ recorder256 .base .0
 
+-- document 02: "Keep instead the number of rollovers since the last accepted offset, at most 1,024": a rollover is one more, whatever its
+-- leap step; where there is no earlier update there is nothing to count
+abbrev pub intervalGrown : ℕ → ℕ → ℕ
+intervalGrown flag n = cond (eqb flag 1) (min (n + 1) longestInterval) n
+
 -- "Then at most one of these, by the status before", s being the second that the rollover has reached:
 -- "INS and seconds divisible by 86,400: seconds - 1, OOP."
 abbrev pub inserts : ℕ → ℕ → Bool
@@ -58,7 +63,7 @@ rolledOver c =
       time = record { seconds = leapSeconds (c .status) (c .seconds + 1); micros = c .micros; phase = c .phase };
       correction = record { offset = offsetUnits (offsetLeft c); adjustment = phaseUnits (adjustmentFor (share c) (c .frequency .0)) };
       tuning = tuningOf c;
-      update = updateOf c;
+      update = record { updated = c .updated; interval = intervalGrown (c .updated) (c .interval) };
       errors = record { maxerror = micros (maxerrorGrown (c .maxerror .0)); esterror = c .esterror };
       status = leapStatus (c .status) (c .seconds + 1);
     })

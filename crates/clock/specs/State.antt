@@ -31,6 +31,10 @@ greatestFrequency = 100 * frequencyUnitsPerPpm
 abbrev pub greatestConstant : ℕ
 greatestConstant = 4
 
+-- document 02: "the number of rollovers since the last accepted offset, at most 1,024" (rollovers)
+abbrev pub longestInterval : ℕ
+longestInterval = 1024
+
 -- the greatest error (us)
 abbrev pub greatestError : ℕ
 greatestError = 16000000
@@ -61,7 +65,6 @@ strictlyWithin n z = ltZ (negℤ (pos n)) z && ltZ z (pos n)
 
 -- The column "Range", a definition for each row: a saved record's fields are judged by the same.
 
--- seconds, and the second of the earlier update
 abbrev pub secondRange : ℕ → Bool
 secondRange n = leb n lastSecond
 
@@ -87,9 +90,12 @@ constantRange n = leb n greatestConstant
 abbrev pub flagRange : ℕ → Bool
 flagRange n = leb n 1
 
--- its second is "0 if flag 0"
+-- the rollovers since it: "0..1,024 and 0 if the flag is 0"
+abbrev pub intervalRange : ℕ → Bool
+intervalRange n = leb n longestInterval
+
 abbrev pub zeroUnlessFlag : ℕ → ℕ → Bool
-zeroUnlessFlag flag second = eqb flag 1 || eqb second 0
+zeroUnlessFlag flag n = eqb flag 1 || eqb n 0
 
 -- both errors
 abbrev pub errorRange : ℕ → Bool
@@ -108,7 +114,7 @@ inRange c =
     && frequencyRange (c .frequency .0)
     && adjustmentRange (c .adjustment .0)
     && constantRange (c .constant)
-    && (flagRange (c .updated) && secondRange (c .reftime) && zeroUnlessFlag (c .updated) (c .reftime))
+    && (flagRange (c .updated) && intervalRange (c .interval) && zeroUnlessFlag (c .updated) (c .interval))
     && errorRange (c .maxerror .0)
     && errorRange (c .esterror .0)
     && statusRange (c .status)
@@ -131,10 +137,10 @@ pub record Tuning : Type 0 where
   pub frequency : Frequency
   pub constant : ℕ
 
--- the earlier update: its flag and its second
+-- the earlier update, moved by requests, rollovers and settings: its flag, and the rollovers since it
 pub record Update : Type 0 where
   pub updated : ℕ
-  pub reftime : ℕ
+  pub interval : ℕ
 
 pub record Errors : Type 0 where
   pub maxerror : Micros
@@ -158,7 +164,7 @@ abbrev pub tuningOf : Clock → Tuning
 tuningOf c = record { frequency = c .frequency; constant = c .constant }
 
 abbrev pub updateOf : Clock → Update
-updateOf c = record { updated = c .updated; reftime = c .reftime }
+updateOf c = record { updated = c .updated; interval = c .interval }
 
 abbrev pub errorsOf : Clock → Errors
 errorsOf c = record { maxerror = c .maxerror; esterror = c .esterror }
@@ -175,7 +181,7 @@ whole g =
       adjustment = g .correction .adjustment;
       constant = g .tuning .constant;
       updated = g .update .updated;
-      reftime = g .update .reftime;
+      interval = g .update .interval;
       maxerror = g .errors .maxerror;
       esterror = g .errors .esterror;
       status = g .status;
@@ -183,7 +189,7 @@ whole g =
 
 -- no earlier update
 abbrev pub noUpdate : Update
-noUpdate = record { updated = 0; reftime = 0 }
+noUpdate = record { updated = 0; interval = 0 }
 
 -- both errors at their limit
 abbrev pub greatestErrors : Errors

@@ -38,6 +38,9 @@ pub const MIN_FREQUENCY: i32 = -MAX_FREQUENCY;
 
 pub const MAX_CONSTANT: u8 = 4;
 
+// The longest interval between two offsets that counts (rollovers): README.kern's MAXSEC.
+pub const MAX_INTERVAL: u32 = 1024;
+
 // The limit of both errors (us).
 pub const MAX_ERROR: u32 = 16000000;
 
@@ -95,6 +98,7 @@ pub struct Limits {
     pub offset: Ends,
     pub frequency: Ends,
     pub constant: u8,
+    pub interval: u32,
     pub error: u32,
 }
 
@@ -111,6 +115,7 @@ pub fn state_limits() -> Limits
     ensures { λ _. do ⌜ (← ⟦MIN_FREQUENCY⟧ .entry) ≡ limits .frequency .lower ⌝ }
     ensures { λ _. do ⌜ (← ⟦MAX_FREQUENCY⟧ .entry) ≡ limits .frequency .upper ⌝ }
     ensures { λ _. do ⌜ (← ⟦MAX_CONSTANT⟧ .entry) ≡ limits .constant ⌝ }
+    ensures { λ _. do ⌜ (← ⟦MAX_INTERVAL⟧ .entry) ≡ limits .interval ⌝ }
     ensures { λ _. do ⌜ (← ⟦MAX_ERROR⟧ .entry) ≡ limits .error ⌝ }
 {
     Limits {
@@ -130,6 +135,7 @@ pub fn state_limits() -> Limits
             upper: MAX_FREQUENCY,
         },
         constant: MAX_CONSTANT,
+        interval: MAX_INTERVAL,
         error: MAX_ERROR,
     }
 }

@@ -3,11 +3,12 @@ ghost use mathlib.Core.Bool.{true};
 ghost use Prim.Native.Nat.{_≤_, _<_};
 ghost use lib.IntN.{pos};
 ghost use Rattle.clock.specs.Units.{micros, offsetUnits, phaseUnits};
-ghost use Rattle.clock.specs.State.{within, greatestConstant, greatestError, greatestFrequency, inRange, lastSecond};
-ghost use Rattle.clock.specs.Rollover.{maxerrorGrown, shareDivisor, share, adjustmentFor, rolledOver};
+ghost use Rattle.clock.specs.State.{within, greatestConstant, longestInterval, greatestError, greatestFrequency, inRange, lastSecond};
+ghost use Rattle.clock.specs.Rollover.{maxerrorGrown, intervalGrown, shareDivisor, share, adjustmentFor, rolledOver};
 ghost use Rattle.clock.specs.Inner.{greatestShare, leapOf};
 use crate::device::RECORDER_256;
 use crate::limits::MAX_ERROR;
+use crate::limits::MAX_INTERVAL;
 use crate::limits::SECONDS_PER_DAY;
 use crate::limits::TIME_BAD;
 use crate::limits::TIME_DEL;
@@ -32,6 +33,18 @@ fn maxerror_grown(e: Micros) -> Micros
         Micros(e.0 + TOLERANCE)
     } else {
         Micros(MAX_ERROR)
+    }
+}
+
+// The interval since the earlier update, a rollover later; without one it stays 0.
+fn interval_grown(updated: u8, n: u32) -> u32
+    requires { ⌜ n ≤ longestInterval ⌝ }
+    ensures { λ r. ⌜ r ≡ intervalGrown updated n ⌝ }
+{
+    if (updated == 1) & (n < MAX_INTERVAL) {
+        n + 1
+    } else {
+        n
     }
 }
 
@@ -128,11 +141,13 @@ pub(crate) fn rollover(c: Clock) -> Clock
     let share = share_of(c);
     let left = OffsetUnits(c.offset.0 - share.0);
     let adjustment = adjustment_for(share, c.frequency);
+    let interval = interval_grown(c.updated, c.interval);
     let leap = leap_step(c.status, c.seconds + 1);
     Clock {
         seconds: leap.seconds,
         offset: left,
         adjustment: adjustment,
+        interval: interval,
         maxerror: maxerror,
         status: leap.status,
         ..c

@@ -39,7 +39,7 @@ pub fn set(c: Clock, seconds: u64, micros: AskedMicros) -> Outcome
         offset: none,
         adjustment: adjustment,
         updated: 0,
-        reftime: 0,
+        interval: 0,
         maxerror: Micros(MAX_ERROR),
         esterror: Micros(MAX_ERROR),
         status: TIME_BAD,

@@ -7,6 +7,7 @@ use crate::limits::LAST_SECOND;
 use crate::limits::MAX_CONSTANT;
 use crate::limits::MAX_ERROR;
 use crate::limits::MAX_FREQUENCY;
+use crate::limits::MAX_INTERVAL;
 use crate::limits::MAX_OFFSET;
 use crate::limits::MIN_FREQUENCY;
 use crate::limits::MIN_OFFSET;
@@ -36,16 +37,15 @@ pub struct Clock {
     pub constant: u8,
     // 1 if an offset was accepted since the last setting (document 01's earlier update), else 0
     pub updated: u8,
-    // the second of that offset, or 0
-    pub reftime: u32,
+    // the rollovers since that offset, up to the longest interval that counts, or 0
+    pub interval: u32,
     pub maxerror: Micros,
     pub esterror: Micros,
     // TIME_OK 0, TIME_INS 1, TIME_DEL 2, TIME_OOP 3, TIME_BAD 4 (in today's sys/timex.h TIME_BAD is 5)
     pub status: u8,
 }
 
-// The fields up to the frequency. Every u32 is a second that can be told: the tests of `seconds` and `reftime` always hold, and cost
-// nothing.
+// The fields up to the frequency. Every u32 is a second that can be told: the test of `seconds` always holds, and costs nothing.
 fn first_fields_in_range(c: Clock) -> bool
     ensures { λ r. ⌜ r ≡ firstFieldsRange c ⌝ }
 {
@@ -62,7 +62,7 @@ fn last_fields_in_range(c: Clock) -> bool
 {
     ((RECORDER_256.least.0 <= c.adjustment.0) & (c.adjustment.0 <= RECORDER_256.most.0))
         & (c.constant <= MAX_CONSTANT)
-        & ((c.updated <= 1) & (c.reftime <= LAST_SECOND) & ((c.updated == 1) | (c.reftime == 0)))
+        & ((c.updated <= 1) & (c.interval <= MAX_INTERVAL) & ((c.updated == 1) | (c.interval == 0)))
         & (c.maxerror.0 <= MAX_ERROR)
         & (c.esterror.0 <= MAX_ERROR)
         & (c.status <= TIME_BAD)
@@ -93,7 +93,7 @@ pub fn fresh() -> Clock
         adjustment: base,
         constant: 0,
         updated: 0,
-        reftime: 0,
+        interval: 0,
         maxerror: Micros(MAX_ERROR),
         esterror: Micros(MAX_ERROR),
         status: TIME_BAD,

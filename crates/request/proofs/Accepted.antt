@@ -100,7 +100,7 @@ module _ (c : Clock) (r : Request) (a : Accepted c r) where
   constant-written = cond-most (selectsConstant r) (r .constant) (c .constant) 4 (a .constant) (a .clock .constant)
 
   -- an earlier update, or none
-  update-after : (b : Bool) → eqb (cond b 1 (c .updated)) 1 || eqb (cond b (c .seconds) (c .reftime)) 0 ≡ true
+  update-after : (b : Bool) → eqb (cond b 1 (c .updated)) 1 || eqb (cond b 0 (c .interval)) 0 ≡ true
   update-after true = refl
   update-after false = a .clock .update
 
@@ -117,7 +117,7 @@ module _ (c : Clock) (r : Request) (a : Accepted c r) where
             frequency-written,
         constant-written,
         cond-most (selectsOffset r) 1 (c .updated) 1 (λ t. omega arith) (a .clock .updated),
-        cond-most (selectsOffset r) (c .seconds) (c .reftime) 4294967295 (λ t. a .clock .seconds) (a .clock .reftime),
+        cond-most (selectsOffset r) 0 (c .interval) 1024 (λ t. omega arith) (a .clock .interval),
         update-after (selectsOffset r),
         cond-micros (selectsMaxerror r) (micros (r .maxerror .0)) (c .maxerror) 16000000 (a .maxerror) (a .clock .maxerror),
         cond-micros (selectsEsterror r) (micros (r .esterror .0)) (c .esterror) 16000000 (a .esterror) (a .clock .esterror),

@@ -1,17 +1,19 @@
 -- The numbers of a frequency gain fit 32 bits, and a clamped frequency is in its range.
-use mathlib.Core.Path.{_≡_, refl}
-use mathlib.Core.Bool.{Bool, true, false, cond}
-use Prim.Native.Nat.{ℕ, _-_, _*_, _≤_, _<_, min}
+use mathlib.Core.Path.{_≡_, refl, sym}
+use mathlib.Core.Bool.{Bool, true, false, cond, _||_}
+use Prim.Native.Nat.{ℕ, _*_, _≤_, _<_}
 use native.Mathlib.Omega.{arith}
 use native.Mathlib.Nat.{one-le-pow, pow-le-pow-right, mul-le-mul, div-le-self, lt-of-le-of-lt}
 use lib.Dec.{eqb, lit<}
 use lib.IntN.{ℤ, pos, negℤ, _+ℤ_, _*ℤ_}
 use lib.Signed.{ltZ}
+use borrow.Author.Tests.{eqb-true}
 use mir.Syntax.{w32}
 use mir.Val.{SFits}
 use Rattle.integers.proofs.Parts.{posPart, negPart, parts, one-part, sfits-parts, ge-parts}
 use Rattle.clock.specs.State.{greatestFrequency}
 use Rattle.clock.specs.declared.state.Clock.{Clock}
+use Rattle.clock.proofs.Ok.{Ok}
 use Rattle.request.specs.Request.{interval, gainDivisor, gain, clamp}
 
 pub divisor-pos : (k : ℕ) → 0 < gainDivisor k
@@ -40,12 +42,13 @@ gains o n k h hn hk =
       small = s;
     }
 
-cond-most : (b : Bool) (x y n : ℕ) → x ≤ n → y ≤ n → cond b x y ≤ n
-cond-most true x y n h k = h
-cond-most false x y n h k = k
+kept-by : (b : Bool) (n : ℕ) → b || eqb n 0 ≡ true → cond b n 0 ≡ n
+kept-by true n e = refl
+kept-by false n e = sym (eqb-true n 0 e)
 
-pub interval-most : (c : Clock) → interval c ≤ 1024
-interval-most c = cond-most (eqb (c .updated) 1) (min (c .seconds - c .reftime) 1024) 0 1024 (omega arith) (omega arith)
+-- of a clock in range the field alone tells the interval: without an earlier update it is 0
+pub interval-kept : (c : Clock) → Ok c → interval c ≡ c .interval
+interval-kept c k = kept-by (eqb (c .updated) 1) (c .interval) (k .update)
 
 clamp-by : (z : ℤ) (a b : Bool) → ltZ z (negℤ (pos greatestFrequency)) ≡ a → ltZ (pos greatestFrequency) z ≡ b
     → (posPart (cond a (negℤ (pos greatestFrequency)) (cond b (pos greatestFrequency) z)) ≤ 1677721600)

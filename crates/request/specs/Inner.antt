@@ -1,7 +1,6 @@
 -- What the crate's private functions ask of each other. No public promise names it.
 use Prim.Native.Nat.{ℕ, _*_}
-use Rattle.clock.specs.State.{greatestOffset}
-use Rattle.request.specs.Request.{longestInterval}
+use Rattle.clock.specs.State.{greatestOffset, longestInterval}
 
 -- the size of the greatest gain: the greatest offset, the longest interval, time constant 0 (frequency units)
 abbrev pub greatestGain : ℕ

@@ -1,5 +1,5 @@
 -- "Request."
-use Prim.Native.Nat.{ℕ, _-_, _/_, _%_, _^_, min}
+use Prim.Native.Nat.{ℕ, _/_, _%_, _^_}
 use mathlib.Core.Bool.{Bool, _&&_, _||_, not, cond}
 use lib.Dec.{ltb, eqb}
 use lib.IntN.{ℤ, pos, negℤ, _+ℤ_, _*ℤ_}
@@ -109,14 +109,9 @@ constantWritten c r = cond (selectsConstant r) (r .constant) (c .constant)
 abbrev pub offsetAfter : Clock → Request → ℤ
 offsetAfter c r = cond (selectsOffset r) (r .offset .0 *ℤ pos offsetUnitsPerMicro) (c .offset .0)
 
--- (s)
-abbrev pub longestInterval : ℕ
-longestInterval = 1024
-
--- "Interval = seconds now minus the second of the earlier update; 0 if there is none or it is negative; at most 1,024." (s)
--- The difference of two naturals is 0 where it would be negative.
+-- document 02: the interval is "the number of rollovers since the last accepted offset"; document 01: "0 if there is none"
 abbrev pub interval : Clock → ℕ
-interval c = cond (eqb (c .updated) 1) (min (c .seconds - c .reftime) longestInterval) 0
+interval c = cond (eqb (c .updated) 1) (c .interval) 0
 
 -- 4^(time constant)
 abbrev pub gainDivisor : ℕ → ℕ
@@ -140,12 +135,12 @@ frequencyGrown c r = frequencyWritten c r +ℤ gain (r .offset .0) (interval c) 
 abbrev pub frequencyAfter : Clock → Request → ℤ
 frequencyAfter c r = cond (selectsOffset r) (clamp (frequencyGrown c r)) (frequencyWritten c r)
 
--- "The present second becomes the earlier update."
+-- an accepted offset becomes the earlier update: document 01's "The present second becomes the earlier update." No rollover has come since.
 abbrev pub updatedAfter : Clock → Request → ℕ
 updatedAfter c r = cond (selectsOffset r) 1 (c .updated)
 
-abbrev pub reftimeAfter : Clock → Request → ℕ
-reftimeAfter c r = cond (selectsOffset r) (c .seconds) (c .reftime)
+abbrev pub intervalAfter : Clock → Request → ℕ
+intervalAfter c r = cond (selectsOffset r) 0 (c .interval)
 
 -- "A selected offset also turns status BAD to OK, unless this request writes BAD"
 abbrev pub writesBad : Request → Bool
@@ -162,7 +157,7 @@ requested c r =
       time = timeOf c;
       correction = record { offset = offsetUnits (offsetAfter c r); adjustment = c .adjustment };
       tuning = record { frequency = frequencyUnits (frequencyAfter c r); constant = constantWritten c r };
-      update = record { updated = updatedAfter c r; reftime = reftimeAfter c r };
+      update = record { updated = updatedAfter c r; interval = intervalAfter c r };
       errors = record { maxerror = maxerrorWritten c r; esterror = esterrorWritten c r };
       status = statusAfter c r;
     })

@@ -3,10 +3,9 @@ ghost use mathlib.Core.Bool.{true, cond};
 ghost use Prim.Native.Nat.{_≤_};
 ghost use Rattle.clock.specs.Units.{micros, offsetUnits, frequencyUnits};
 ghost use Rattle.clock.specs.State.{greatestError, statusBad};
-ghost use Rattle.request.specs.Request.{requestRefusal, frequencyWritten, constantWritten, statusWritten, offsetAfter, frequencyAfter, statusAfter, reftimeAfter, requested};
+ghost use Rattle.request.specs.Request.{requestRefusal, frequencyWritten, constantWritten, statusWritten, offsetAfter, frequencyAfter, statusAfter, intervalAfter, requested};
 use crate::gain::clamped_sum;
 use crate::gain::gain_of;
-use crate::gain::interval_of;
 use crate::refusal::is_set;
 use crate::request::ADJ_ESTERROR;
 use crate::request::ADJ_FREQUENCY;
@@ -90,7 +89,7 @@ fn frequency_after(c: Clock, r: Request) -> Frequency
     let f = frequency_written(c, r);
     if is_set(r.mode, ADJ_OFFSET) {
         let constant = constant_written(c, r);
-        let g = gain_of(r.offset, interval_of(c), constant);
+        let g = gain_of(r.offset, c.interval, constant);
         return clamped_sum(f, g);
     }
     f
@@ -108,13 +107,13 @@ fn status_after(c: Clock, r: Request) -> u8
     s
 }
 
-fn reftime_after(c: Clock, r: Request) -> u32
-    ensures { λ q. ⌜ q ≡ reftimeAfter c r ⌝ }
+fn interval_after(c: Clock, r: Request) -> u32
+    ensures { λ q. ⌜ q ≡ intervalAfter c r ⌝ }
 {
     if is_set(r.mode, ADJ_OFFSET) {
-        return c.seconds;
+        return 0;
     }
-    c.reftime
+    c.interval
 }
 
 // The clock with every effect of a request that is not refused.
@@ -126,7 +125,7 @@ pub(crate) fn requested_of(c: Clock, r: Request) -> Clock
     let frequency = frequency_after(c, r);
     let constant = constant_written(c, r);
     let updated = number_written(is_set(r.mode, ADJ_OFFSET), 1, c.updated);
-    let reftime = reftime_after(c, r);
+    let interval = interval_after(c, r);
     let maxerror = error_written(is_set(r.mode, ADJ_MAXERROR), r.maxerror, c.maxerror);
     let esterror = error_written(is_set(r.mode, ADJ_ESTERROR), r.esterror, c.esterror);
     let status = status_after(c, r);
@@ -135,7 +134,7 @@ pub(crate) fn requested_of(c: Clock, r: Request) -> Clock
         frequency: frequency,
         constant: constant,
         updated: updated,
-        reftime: reftime,
+        interval: interval,
         maxerror: maxerror,
         esterror: esterror,
         status: status,

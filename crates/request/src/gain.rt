@@ -3,34 +3,13 @@ ghost use mathlib.Core.Bool.{true};
 ghost use Prim.Native.Nat.{_≤_};
 ghost use lib.IntN.{pos, _+ℤ_};
 ghost use Rattle.clock.specs.Units.{frequencyUnits};
-ghost use Rattle.clock.specs.State.{within, greatestFrequency, greatestOffset, greatestConstant};
-ghost use Rattle.request.specs.Request.{longestInterval, interval, gainDivisor, gain, clamp};
+ghost use Rattle.clock.specs.State.{within, greatestFrequency, greatestOffset, greatestConstant, longestInterval};
+ghost use Rattle.request.specs.Request.{gainDivisor, gain, clamp};
 ghost use Rattle.request.specs.Inner.{greatestGain};
 use crate::units::AskedOffset;
-use clock::Clock;
 use clock::Frequency;
 use clock::MAX_FREQUENCY;
 use clock::MIN_FREQUENCY;
-
-// (s)
-const MAX_INTERVAL: u32 = 1024;
-
-// Seconds since the earlier update, up to the longest interval that counts.
-pub(crate) fn interval_of(c: Clock) -> u32
-    ensures { λ r. ⌜ r ≡ interval c ⌝ }
-{
-    if c.updated == 1 {
-        if c.seconds <= c.reftime {
-            return 0;
-        }
-        let d = c.seconds - c.reftime;
-        if d <= MAX_INTERVAL {
-            return d;
-        }
-        return MAX_INTERVAL;
-    }
-    0
-}
 
 fn gain_divisor(constant: u8) -> i32
     requires { ⌜ constant ≤ greatestConstant ⌝ }

@@ -4,7 +4,7 @@ use Rattle.clock.proofs.limits.state_limits.Statement.{statement}
 use Rattle.clock.proofs.limits.state_limits.Tie as tie
 
 returns : tie.Need-returns
-returns c = (refl, (refl, (refl, (refl, (refl, (refl, (refl, (refl, (refl, (refl, (refl, refl)))))))))))
+returns c = (refl, (refl, (refl, (refl, (refl, (refl, (refl, (refl, (refl, (refl, (refl, (refl, refl))))))))))))
 
 pub state-limits-spec : {M : Type 1} → statement M
 state-limits-spec = tie.close (tie.spec returns)

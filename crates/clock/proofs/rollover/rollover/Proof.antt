@@ -17,8 +17,8 @@ maxerror-grown-requires c κs = known c .maxerror
 share-of-requires : tie.Need-share-of-requires
 share-of-requires c κs = search needs
 
-sub-t7 : tie.Need-sub-t7
-sub-t7 c =
+sub-t8 : tie.Need-sub-t8
+sub-t8 c =
     let k = known (c .before .before .before .before .before .before) in
     simp (c .before .before .before .before .share-of .ensures, toZ-ofZ (fits-offset _ k), toZ-ofZ (fits-share-of _ k)) (fits-rest _ k)
 
@@ -30,6 +30,9 @@ adjustment-for-requires c κs =
       parts-within _ _ (s .args .c .frequency .0) (k .frequency .0) (k .frequency .1),
     )
 
+interval-grown-requires : tie.Need-interval-grown-requires
+interval-grown-requires c κs = known (c .before .before .before .before .before .before .before) .interval
+
 add-leap-step : tie.Need-add-leap-step
 add-leap-step c = search needs
 
@@ -39,11 +42,12 @@ leap-step-requires c κs = search needs
 returns : tie.Need-returns
 unfolding rolledOver
 returns c =
-    let m = c .before .before .before .before .before .before .before .before .before .before .before in
+    let m = c .before .before .before .before .before .before .before .before .before .before .before .before in
     let k = known (m .before .before) in
     simp (
       c .before .before .before .before .leap-step .ensures,
-      c .before .before .before .before .before .before .adjustment-for .ensures,
+      c .before .before .before .before .before .before .interval-grown .ensures,
+      c .before .before .before .before .before .before .before .adjustment-for .ensures,
       m .share-of .ensures,
       m .before .maxerror-grown .ensures,
       toZ-ofZ (fits-offset _ k),
@@ -57,8 +61,9 @@ rollover-spec =
     (tie.spec
     maxerror-grown-requires
     share-of-requires
-    sub-t7
+    sub-t8
     adjustment-for-requires
+    interval-grown-requires
     add-leap-step
     leap-step-requires
     returns)

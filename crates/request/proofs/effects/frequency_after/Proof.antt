@@ -3,9 +3,9 @@ use borrow.Author.Needs.{needs}
 use mathlib.Core.Bool.{true}
 use mathlib.Core.Path.{_≡_, sym, _∙_}
 use Rattle.integers.proofs.Ranges.{parts-within}
-use Rattle.request.specs.Request.{selectsOffset, frequencyWritten, interval, gain, constantWritten}
+use Rattle.request.specs.Request.{selectsOffset, frequencyWritten, gain, constantWritten}
 use Rattle.request.proofs.Accepted.{Accepted, accepted, frequency-written, constant-written}
-use Rattle.request.proofs.GainLaws.{gains, interval-most}
+use Rattle.request.proofs.GainLaws.{gains, interval-kept}
 use Rattle.request.proofs.effects.frequency_after.Statement.{statement}
 use Rattle.request.proofs.effects.frequency_after.Tie as tie
 
@@ -24,40 +24,38 @@ is-set-requires c κs = search needs
 constant-written-requires : tie.Need-constant-written-requires
 constant-written-requires c κs = search needs
 
-interval-of-requires : tie.Need-interval-of-requires
-interval-of-requires c κs = search needs
-
 gain-of-requires : tie.Need-gain-of-requires
 gain-of-requires c κs =
-    let i = c .before .before in
+    let i = c .before in
     let s = i .before .before .before in
     let h = known s .offset (picked i) in (
       parts-within _ _ (s .args .r .offset .0) (h .0) (h .1),
-      (rw (c .interval-of .ensures) (interval-most (s .args .c)), rw (c .before .constant-written .ensures) (constant-written _ _ (known s))),
+      (known s .clock .interval, rw (c .constant-written .ensures) (constant-written _ _ (known s))),
     )
 
 clamped-sum-requires : tie.Need-clamped-sum-requires
 clamped-sum-requires c κs =
-    let i = c .before .before .before in
+    let i = c .before .before in
     let s = i .before .before .before in
     let f = frequency-written _ _ (known s) in
     let g =
-    gains (s .args .r .offset .0) (interval (s .args .c)) (constantWritten (s .args .c) (s .args .r)) (known s .offset (picked i)) (interval-most (s .args .c)) (constant-written _ _ (known s))
+    gains (s .args .r .offset .0) (s .args .c .interval) (constantWritten (s .args .c) (s .args .r)) (known s .offset (picked i)) (known s .clock .interval) (constant-written _ _ (known s))
     .small in (
       rw (i .before .before .frequency-written .ensures) (parts-within _ _ (frequencyWritten (s .args .c) (s .args .r)) (f .0) (f .1)),
       rw
-          (c .gain-of .ensures, c .before .interval-of .ensures, c .before .before .constant-written .ensures)
-          (parts-within _ _ (gain (s .args .r .offset .0) (interval (s .args .c)) (constantWritten (s .args .c) (s .args .r))) (g .0) (g .1)),
+          (c .gain-of .ensures, c .before .constant-written .ensures)
+          (parts-within _ _ (gain (s .args .r .offset .0) (s .args .c .interval) (constantWritten (s .args .c) (s .args .r))) (g .0) (g .1)),
     )
 
 returns : tie.Need-returns
 returns c =
-    let i = c .before .before .before .before in
+    let i = c .before .before .before in
+    let s = i .before .before .before in
     simp (
       c .clamped-sum .ensures,
       c .before .gain-of .ensures,
-      c .before .before .interval-of .ensures,
-      c .before .before .before .constant-written .ensures,
+      interval-kept (s .args .c) (known s .clock),
+      c .before .before .constant-written .ensures,
       i .before .before .frequency-written .ensures,
       picked i,
     )
@@ -74,7 +72,6 @@ frequency-after-spec =
     frequency-written-requires
     is-set-requires
     constant-written-requires
-    interval-of-requires
     gain-of-requires
     clamped-sum-requires
     returns

@@ -24,8 +24,8 @@ is-set-requires c κs = search needs
 number-written-requires : tie.Need-number-written-requires
 number-written-requires c κs = search needs
 
-reftime-after-requires : tie.Need-reftime-after-requires
-reftime-after-requires c κs = search needs
+interval-after-requires : tie.Need-interval-after-requires
+interval-after-requires c κs = search needs
 
 is-set-requires-2 : tie.Need-is-set-requires-2
 is-set-requires-2 c κs = search needs
@@ -51,7 +51,7 @@ returns c =
       c .before .before .before .before .before .is-set3 .ensures,
       c .before .before .before .before .before .before .error-written .ensures,
       c .before .before .before .before .before .before .before .is-set2 .ensures,
-      c .before .before .before .before .before .before .before .before .reftime-after .ensures,
+      c .before .before .before .before .before .before .before .before .interval-after .ensures,
       c .before .before .before .before .before .before .before .before .before .number-written .ensures,
       c .before .before .before .before .before .before .before .before .before .before .is-set .ensures,
       c .before .before .before .before .before .before .before .before .before .before .before .constant-written .ensures,
@@ -68,7 +68,7 @@ requested-of-spec =
     constant-written-requires
     is-set-requires
     number-written-requires
-    reftime-after-requires
+    interval-after-requires
     is-set-requires-2
     error-written-requires
     is-set-requires-3

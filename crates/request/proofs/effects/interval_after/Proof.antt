@@ -1,8 +1,8 @@
--- `request::effects::reftime_after`: the present second where an offset is selected, else the one before.
+-- `request::effects::interval_after`: 0 where an offset is selected, else the one before.
 use borrow.Author.Needs.{needs}
 use mathlib.Core.Path.{sym, _∙_}
-use Rattle.request.proofs.effects.reftime_after.Statement.{statement}
-use Rattle.request.proofs.effects.reftime_after.Tie as tie
+use Rattle.request.proofs.effects.interval_after.Statement.{statement}
+use Rattle.request.proofs.effects.interval_after.Tie as tie
 
 is-set-requires : tie.Need-is-set-requires
 is-set-requires c κs = search needs
@@ -17,5 +17,5 @@ returns-2 c =
     let t = sym (c .before .is-set .ensures) ∙ c .if1 .left in
     simp t
 
-pub reftime-after-spec : {M : Type 1} → statement M
-reftime-after-spec = tie.close (tie.spec is-set-requires returns returns-2)
+pub interval-after-spec : {M : Type 1} → statement M
+interval-after-spec = tie.close (tie.spec is-set-requires returns returns-2)
