@@ -1,17 +1,17 @@
 -- The theorems on records: each proves a statement of specs/Properties.antt, by the laws that hold of every layout (number's `Layouts`).
 -- What is said of the fields one by one is how many bytes each can have.
 use mathlib.Core.Path.{_≡_, refl, sym, _∙_, ap}
-use mathlib.Core.Bool.{Bool, true, false, _&&_, false≢true, and-assoc, and-false}
+use mathlib.Core.Bool.{Bool, true, false, cond, _&&_, false≢true, and-assoc, and-false}
 use mathlib.Core.Bool.{and-true as and-one}
 use mathlib.Core.List.{List, _++_, append-nil}
 use mathlib.Core.Logic.{_⊎_, inl, inr, ⊎-elim}
-use Prim.Native.Nat.{ℕ, suc, _*_, _-_, _^_, _<_, _≤_}
+use Prim.Native.Nat.{ℕ, suc, _+_, _*_, _-_, _^_, _<_, _≤_}
 use native.Mathlib.Omega.{arith}
-use lib.Dec.{leb, ltb, lit<}
+use lib.Dec.{leb, ltb, eqb, lit<}
 use lib.IntN.{pos}
 use lib.ListN.{length, drop}
 use lib.Seq.{take-append-seam, drop-append-seam}
-use borrow.Author.Tests.{eqb-true, leb-true, ltb-true, ltb-false}
+use borrow.Author.Tests.{leb-true, ltb-true, ltb-false}
 use Rattle.integers.proofs.Ranges.{and-true, true-and}
 use Rattle.number.specs.Form.{bytesOf, bytesFrom, bytesOfAll}
 use Rattle.number.specs.Layout.{Outcome, got, failed, readFrom}
@@ -22,13 +22,14 @@ use Rattle.number.proofs.Layouts.{Choice, chosen, stands, allows, joined, allow
 use Rattle.number.proofs.Sizes.{bytes-last}
 use Rattle.number.proofs.Mapping.{unmapped-mapped, mapped-unmapped}
 use Rattle.clock.specs.Units.{micros, offsetUnits, phaseUnits, frequencyUnits, offsetUnitsPerMicro, phaseUnitsPerMicro}
-use Rattle.clock.specs.State.{inRange, freshClock, secondRange, flagRange, zeroUnlessFlag, lastSecond, lastMicro, greatestOffset, greatestFrequency, greatestConstant, greatestError, statusBad}
+use Rattle.clock.specs.State.{inRange, freshClock, secondRange, flagRange, intervalRange, zeroUnlessFlag, lastSecond, longestInterval, lastMicro, greatestOffset, greatestFrequency, greatestConstant, greatestError, statusBad}
 use Rattle.clock.specs.declared.state.Clock.{Clock}
-use Rattle.record.specs.Layout.{newest, knownVersion, reftimeRange, numbersIn, recordIn, recordOf, recordLayout}
+use Rattle.record.specs.Layout.{newest, knownVersion, reftimeRange, countRange, lastRange, keptUpdate, numbersIn, recordIn, recordOf, recordLayout}
 use Rattle.record.specs.Reading.{restored, readingOf, accepted, refusedWith}
 use Rattle.record.specs.Saving.{savingOf, bufferAfter}
 use Rattle.record.specs.Inner.{mappedPhase, mappedOffset, mappedFrequency, mappedAdjustment}
-use Rattle.record.specs.Properties.{Says, ReadsBack, NothingFollows, WritesNewest, Bytes, versionOf, Whole, OneForm, OneNewest, Refused, RefusedIsFresh, ExactlyWhen, greatestLength, LongestIs, freshRecord, SavedIsKept}
+use Rattle.record.specs.Properties.{Says, ReadsBack, NothingFollows, WritesNewest, Bytes, versionOf, Whole, OneForm, OneNewest, Refused, RefusedIsFresh, ExactlyWhen, LongestIs, Longest, freshRecord, freshRecord1, FreshRecords, Version1, SavedIsKept}
+use Rattle.record.specs.declared.groups.Update.{Update}
 use Rattle.record.specs.declared.restore.Restored.{Restored}
 use Rattle.record.specs.declared.save.Saved.{Saved}
 use Rattle.record.proofs.Ranges.{phase-test, offset-test, frequency-test, adjustment-test}
@@ -41,7 +42,25 @@ below : (k most : ℕ) → most < 128 ^ suc k → (n : ℕ) → leb n most ≡ t
 below k most l n e = omega (arith, leb-true n most e)
 
 version-small : (n : ℕ) → knownVersion n ≡ true → n < 128
-version-small n e = omega (arith, eqb-true n newest e)
+version-small n e = omega (arith, leb-true n newest (and-true (leb 1 n) (leb n newest) e .1))
+
+-- what follows the flag of the earlier update, in five bytes or in two: behind the first there are so many
+abbrev lastMore : ℕ → ℕ
+lastMore version = cond (eqb version 1) 4 1
+
+last-five : (version : ℕ) → lastMore version < 5
+last-five version = ⊎-elim (λ (t : eqb version 1 ≡ true). simp t (lit< tt)) (λ (t : eqb version 1 ≡ false). simp t (lit< tt)) (either (eqb version 1))
+
+last-small : (version flag n : ℕ) → lastRange version flag n ≡ true → n < 128 ^ suc (lastMore version)
+last-small version flag n e =
+    ⊎-elim
+    (λ (t : eqb version 1 ≡ true).
+    let w : reftimeRange flag n ≡ true = simp t at e in
+    simp t (below 4 lastSecond (lit< tt) n (and-true (secondRange n) (zeroUnlessFlag flag n) w .0)))
+    (λ (t : eqb version 1 ≡ false).
+    let w : countRange flag n ≡ true = simp t at e in
+    simp t (below 1 longestInterval (lit< tt) n (and-true (intervalRange n) (zeroUnlessFlag flag n) w .0)))
+    (either (eqb version 1))
 
 unfoldable sizes : Sized recordLayout
 unfolding recordLayout
@@ -55,7 +74,7 @@ sizes =
     sized 4 _ _ _ (lit< tt) (λ n e. below 4 mappedAdjustment (lit< tt) n (and-true _ _ (adjustment-test n ∙ e) .0)) (λ adjustment.
     sized 0 _ _ _ (lit< tt) (below 0 _ (lit< tt)) (λ constant.
     sized 0 _ _ _ (lit< tt) (below 0 _ (lit< tt)) (λ flag.
-    sized 4 _ _ _ (lit< tt) (λ n e. below 4 lastSecond (lit< tt) n (and-true _ _ e .0)) (λ last.
+    sized (lastMore version) _ _ _ (last-five version) (last-small version flag) (λ last.
     sized 3 _ _ _ (lit< tt) (below 3 _ (lit< tt)) (λ maxerror.
     sized 3 _ _ _ (lit< tt) (below 3 _ (lit< tt)) (λ esterror.
     sized 0 _ _ _ (lit< tt) (below 0 _ (lit< tt)) (λ status.
@@ -65,21 +84,31 @@ sizes =
 
 -- the tests of a clock's earlier update
 abbrev updateRange : ℕ → ℕ → Bool
-updateRange flag last = flagRange flag && secondRange last && zeroUnlessFlag flag last
+updateRange flag last = flagRange flag && intervalRange last && zeroUnlessFlag flag last
 
-update-apart : (flag last : ℕ) → updateRange flag last ≡ flagRange flag && reftimeRange flag last
-update-apart flag last = and-assoc (flagRange flag) (secondRange last) (zeroUnlessFlag flag last)
+update-apart : (flag last : ℕ) → updateRange flag last ≡ flagRange flag && countRange flag last
+update-apart flag last = and-assoc (flagRange flag) (intervalRange last) (zeroUnlessFlag flag last)
 
-update-sound : (c : Clock) → inRange c ≡ true → updateRange (c .updated) (c .reftime) ≡ true
+-- what is kept of flag and last passes them
+kept-sound : (version flag last : ℕ) → flagRange flag ≡ true → lastRange version flag last ≡ true
+    → updateRange (keptUpdate version flag last .updated) (keptUpdate version flag last .interval) ≡ true
+kept-sound version flag last flagged ranged =
+    ⊎-elim (λ (t : eqb version 1 ≡ true). simp t)
+    (λ (t : eqb version 1 ≡ false).
+    let w : countRange flag last ≡ true = simp t at ranged in
+    simp t (update-apart flag last ∙ true-and flagged w))
+    (either (eqb version 1))
+
+update-sound : (c : Clock) → inRange c ≡ true → updateRange (c .updated) (c .interval) ≡ true
 unfolding inRange
 update-sound c e =
     ⊎-elim (λ t. t)
-    (λ (t : updateRange (c .updated) (c .reftime) ≡ false).
+    (λ (t : updateRange (c .updated) (c .interval) ≡ false).
     let no : inRange c ≡ false = simp (t, and-false) in
     absurd (false≢true (sym no ∙ e)))
-    (either (updateRange (c .updated) (c .reftime)))
+    (either (updateRange (c .updated) (c .interval)))
 
-allowed : (version : ℕ) (c : Clock) (flag last : ℕ) → knownVersion version ≡ true → flagRange flag ≡ true → reftimeRange flag last ≡ true → updateRange (c .updated) (c .reftime) ≡ true
+allowed : (version : ℕ) (c : Clock) (flag last : ℕ) → knownVersion version ≡ true → flagRange flag ≡ true → lastRange version flag last ≡ true → updateRange (c .updated) (c .interval) ≡ true
     → allows recordLayout (numbersIn version c flag last) ≡ inRange c
 unfolding joined recordLayout numbersIn inRange
 allowed version c flag last known flagged ranged update =
@@ -99,7 +128,7 @@ module _ {version : ℕ} {c : Clock} {flag last : ℕ} (w : Says version c flag 
 
   choice-clock : stands recordLayout choice ≡ c
   unfolding choice choose stands Choice recordLayout numbersIn
-  choice-clock = rw (sym (w .update .0), sym (w .update .1)) (simp unmapped-mapped)
+  choice-clock = rw (sym (w .update)) (simp unmapped-mapped)
 
   -- the record, and what follows it
   ahead : {s rest : List ℕ} → s ≡ recordIn version c flag last ++ rest → Ahead s 0 (chosen recordLayout choice) rest
@@ -129,13 +158,13 @@ module _ (k : Choice recordLayout) where
   said =
       let known = k .fits in
       let flag = k .more .more .more .more .more .more .more .more in
-      let update = update-apart flag-of last-of ∙ true-and (flag .fits) (flag .more .fits) in
+      let update = kept-sound version-of flag-of last-of (flag .fits) (flag .more .fits) in
       record {
         known = known;
         sound = sym (allowed version-of (stands recordLayout k) flag-of last-of known (flag .fits) (flag .more .fits) update) ∙ ap (allows recordLayout) (sym numbers-chosen) ∙ chosen-allowed recordLayout k;
         flagged = flag .fits;
         ranged = flag .more .fits;
-        update = (refl, refl);
+        update = refl;
       }
 
 -- ---- what was written is read
@@ -150,8 +179,8 @@ nothing-follows version c flag last rest w h = ap restored (read-more recordLayo
 
 pub writes-newest : WritesNewest
 writes-newest c e =
-    let w = and-true (flagRange (c .updated)) (reftimeRange (c .updated) (c .reftime)) (sym (update-apart (c .updated) (c .reftime)) ∙ update-sound c e) in
-    record { known = refl; sound = e; flagged = w .0; ranged = w .1; update = (refl, refl) }
+    let w = and-true (flagRange (c .updated)) (countRange (c .updated) (c .interval)) (sym (update-apart (c .updated) (c .interval)) ∙ update-sound c e) in
+    record { known = refl; sound = e; flagged = w .0; ranged = w .1; update = refl }
 
 -- ---- what is read was written, and what a refusal is
 
@@ -186,10 +215,39 @@ pub one-form : OneForm
 unfolding readingOf
 one-form s b z = whole-found s b (readFrom recordLayout s 0) refl z
 
+-- a record of the newest version is the one that is written of its clock
+newest-written : {c : Clock} {flag last : ℕ} → Says newest c flag last → recordIn newest c flag last ≡ recordOf c
+newest-written {c} w = ap (λ (u : Update). recordIn newest c (u .updated) (u .interval)) (sym (w .update))
+
 pub one-newest : OneNewest
 one-newest s b z v =
     let w = one-form s b z in
-    w .written ∙ rw (v, w .says .update .0, w .says .update .1)
+    rw v at (w .written) ∙ newest-written (rw v at (w .says))
+
+pub version-1 : Version1
+version-1 =
+    record {
+      only =
+          λ s b z v.
+          let w = one-form s b z in
+          let says = rw v at (w .says) in
+          let update = says .update in
+          record {
+            flag = w .flag;
+            second = w .last;
+            flagged = says .flagged;
+            ranged = says .ranged;
+            sound = says .sound;
+            none = (ap (λ (u : Update). u .updated) update, ap (λ (u : Update). u .interval) update);
+            written = rw v at (w .written);
+          };
+      always =
+          λ s c o.
+          ap readingOf (o .written)
+          ∙ reads-back 1 c (o .flag) (o .second)
+          (record { known = refl; sound = o .sound; flagged = o .flagged; ranged = o .ranged; update = rw (o .none .0, o .none .1) });
+      after = λ s c o. rw (o .none .0, o .none .1);
+    }
 
 fair-found : (s : List ℕ) (x : Outcome Clock) → readFrom recordLayout s 0 ≡ x → (restored x .refusal ≡ 0) ⊎ Refused (restored x)
 fair-found s (got c) e = inl refl
@@ -211,9 +269,9 @@ exactly-when s r some =
 
 -- ---- the longest record, and the fresh clock's
 
--- each field at its greatest
-abbrev greatest : Clock
-greatest =
+-- each field at its greatest, but for the earlier update
+abbrev greatest : Update → Clock
+greatest u =
     record {
       seconds = lastSecond;
       micros = micros lastMicro;
@@ -222,44 +280,53 @@ greatest =
       frequency = frequencyUnits (pos greatestFrequency);
       adjustment = phaseUnits (pos 303037440);
       constant = greatestConstant;
-      updated = 1;
-      reftime = lastSecond;
+      updated = u .updated;
+      interval = u .interval;
       maxerror = micros greatestError;
       esterror = micros greatestError;
       status = statusBad;
     }
 
-greatest-sound : inRange greatest ≡ true
-unfolding inRange
-greatest-sound = refl
-
-greatest-long : length (recordIn newest greatest 1 lastSecond) ≡ greatestLength
-unfolding recordIn numbersIn bytesOfAll bytesOf bytesFrom mapped
-greatest-long = refl
-
-most-bytes : {version : ℕ} {c : Clock} {flag last : ℕ} (w : Says version c flag last) → most recordLayout sizes (choice w) ≡ greatestLength
+most-bytes : {version : ℕ} {c : Clock} {flag last : ℕ} (w : Says version c flag last) → most recordLayout sizes (choice w) ≡ 41 + lastMore version
 unfolding most sizes sized sized-end Sized choice choose Choice recordLayout numbersIn
-most-bytes w = refl
+most-bytes w = omega arith
 
-no-record-longer : {version : ℕ} {c : Clock} {flag last : ℕ} → Says version c flag last → length (recordIn version c flag last) ≤ greatestLength
+no-record-longer : {version : ℕ} {c : Clock} {flag last : ℕ} → Says version c flag last → length (recordIn version c flag last) ≤ 41 + lastMore version
 unfolding recordIn
 no-record-longer w = rw (most-bytes w, choice-numbers w) at (no-longer recordLayout sizes (choice w))
 
-pub longest : LongestIs newest greatestLength
+longest-of : (version last : ℕ) → Says version (greatest (keptUpdate version 1 last)) 1 last
+    → length (recordIn version (greatest (keptUpdate version 1 last)) 1 last) ≡ 41 + lastMore version → LongestIs version (41 + lastMore version)
+longest-of version last w e = record { none = λ c flag last w. no-record-longer w; one = _; flag = 1; last = last; says = w; long = e }
+
+pub longest : Longest
+unfolding inRange recordIn numbersIn bytesOfAll bytesOf bytesFrom mapped
 longest =
     record {
-      none = λ c flag last w. no-record-longer w;
-      one = greatest;
-      flag = 1;
-      last = lastSecond;
-      says = record { known = refl; sound = greatest-sound; flagged = refl; ranged = refl; update = (refl, refl) };
-      long = greatest-long;
+      version1 = longest-of 1 lastSecond (record { known = refl; sound = refl; flagged = refl; ranged = refl; update = refl }) refl;
+      version2 = longest-of 2 longestInterval (record { known = refl; sound = refl; flagged = refl; ranged = refl; update = refl }) refl;
     }
 
--- "The fresh clock, whole"
-pub fresh-record : recordOf freshClock ≡ freshRecord
+fresh-written : recordOf freshClock ≡ freshRecord
 unfolding recordIn numbersIn bytesOfAll bytesOf bytesFrom mapped
-fresh-record = refl
+fresh-written = refl
+
+fresh-written-1 : freshRecord1 ≡ recordIn 1 freshClock 0 0
+unfolding recordIn numbersIn bytesOfAll bytesOf bytesFrom mapped
+fresh-written-1 = refl
+
+fresh-sound : inRange freshClock ≡ true
+unfolding inRange
+fresh-sound = refl
+
+pub fresh-records : FreshRecords
+fresh-records =
+    record {
+      written = fresh-written;
+      read =
+          version-1 .always freshRecord1 freshClock
+          (record { flag = 0; second = 0; flagged = refl; ranged = refl; sound = fresh-sound; none = (refl, refl); written = fresh-written-1 });
+    }
 
 -- ---- written and read back through a buffer
 

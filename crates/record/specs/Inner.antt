@@ -9,7 +9,7 @@ use Rattle.number.specs.Mapping.{unmapped}
 use Rattle.number.specs.Reading.{Found, number, refused}
 use Rattle.clock.specs.Units.{offsetUnitsPerMicro, phaseUnitsPerMicro}
 use Rattle.clock.specs.Device.{recorder256}
-use Rattle.clock.specs.State.{lastSecond, greatestOffset, greatestFrequency}
+use Rattle.clock.specs.State.{lastSecond, longestInterval, greatestOffset, greatestFrequency}
 use Rattle.clock.specs.declared.state.Clock.{Clock}
 use Rattle.record.specs.Layout.{timeFields, loopFields, rateFields, updateFields, errorFields, clockOf}
 use Rattle.record.specs.declared.field.Field.{Field}
@@ -50,9 +50,9 @@ mappedFrequency = 2 * greatestFrequency
 abbrev pub mappedAdjustment : ℕ
 mappedAdjustment = 2 * natAbs (recorder256 .most .0)
 
--- the largest second of an earlier update
-abbrev pub lastReftime : ℕ → ℕ
-lastReftime flag = cond (eqb flag 1) lastSecond 0
+-- the largest number behind the flag of an earlier update
+abbrev pub lastMost : ℕ → ℕ → ℕ
+lastMost version flag = cond (eqb flag 1) (cond (eqb version 1) lastSecond longestInterval) 0
 
 -- ---- a group of fields and those behind it, after the groups before it
 
@@ -60,7 +60,7 @@ unfoldable pub fromErrors : Head → Time → Loop → Rate → Update → Layou
 fromErrors h t l a u = errorFields (λ e. whole (clockOf t l a u e))
 
 unfoldable pub fromUpdate : Head → Time → Loop → Rate → Layout Clock
-fromUpdate h t l a = updateFields (λ u. fromErrors h t l a u)
+fromUpdate h t l a = updateFields (h .version) (λ u. fromErrors h t l a u)
 
 unfoldable pub fromRate : Head → Time → Loop → Layout Clock
 fromRate h t l = rateFields (λ a. fromUpdate h t l a)

@@ -9,7 +9,7 @@ use lib.ListN.{length, getD, take, drop}
 use Rattle.number.specs.Stopping.{Stops}
 use Rattle.clock.specs.State.{inRange, freshClock, flagRange}
 use Rattle.clock.specs.declared.state.Clock.{Clock}
-use Rattle.record.specs.Layout.{newest, knownVersion, reftimeRange, recordIn, recordOf, recordLayout}
+use Rattle.record.specs.Layout.{newest, knownVersion, reftimeRange, lastRange, keptUpdate, recordIn, recordOf, recordLayout}
 use Rattle.record.specs.Reading.{readingOf, accepted, refusedWith}
 use Rattle.record.specs.Saving.{savingOf, bufferAfter}
 use Rattle.record.specs.declared.restore.Restored.{Restored}
@@ -20,8 +20,8 @@ pub record Says (version : ℕ) (c : Clock) (flag last : ℕ) : Type 0 where
   pub known : knownVersion version ≡ true
   pub sound : inRange c ≡ true
   pub flagged : flagRange flag ≡ true
-  pub ranged : reftimeRange flag last ≡ true
-  pub update : (c .updated ≡ flag) × (c .reftime ≡ last)
+  pub ranged : lastRange version flag last ≡ true
+  pub update : record { updated = c .updated; interval = c .interval } ≡ keptUpdate version flag last
 
 -- ---- what was written is read
 
@@ -37,7 +37,7 @@ NothingFollows =
 
 -- "Writers use the newest version": what is written of a clock in range says it
 abbrev pub WritesNewest : Type 0
-WritesNewest = (c : Clock) → inRange c ≡ true → Says newest c (c .updated) (c .reftime)
+WritesNewest = (c : Clock) → inRange c ≡ true → Says newest c (c .updated) (c .interval)
 
 -- ---- what is read was written
 
@@ -63,6 +63,23 @@ OneForm = (s : List ℕ) → Bytes s → readingOf s .refusal ≡ 0 → Whole s 
 abbrev pub OneNewest : Type 0
 OneNewest = (s : List ℕ) → Bytes s → readingOf s .refusal ≡ 0 → versionOf s ≡ newest → s ≡ recordOf (readingOf s .clock)
 
+-- .. of version 1: those of a clock in range that has no earlier update, with a flag and a second beside it, which are judged as document
+-- 01 says and not kept
+pub record OfVersion1 (s : List ℕ) (c : Clock) : Type 0 where
+  pub flag : ℕ
+  pub second : ℕ
+  pub flagged : flagRange flag ≡ true
+  pub ranged : reftimeRange flag second ≡ true
+  pub sound : inRange c ≡ true
+  pub none : (c .updated ≡ 0) × (c .interval ≡ 0)
+  pub written : s ≡ recordIn 1 c flag second
+
+-- exactly these are read, and what is then written is of the newest version, with no earlier update
+pub record Version1 : Type 0 where
+  pub only : (s : List ℕ) → Bytes s → readingOf s .refusal ≡ 0 → versionOf s ≡ 1 → OfVersion1 s (readingOf s .clock)
+  pub always : (s : List ℕ) (c : Clock) → OfVersion1 s c → readingOf s ≡ accepted c
+  pub after : (s : List ℕ) (c : Clock) → OfVersion1 s c → recordOf c ≡ recordIn newest c 0 0
+
 -- ---- what is refused
 
 -- a reading is accepted, or refused with 10, 11, 12 or 13 and the fresh clock
@@ -83,10 +100,6 @@ ExactlyWhen = (s : List ℕ) (r : ℕ) → 0 < r → RefusedWhen s r
 
 -- ---- how long a record is, and the fresh clock's
 
--- "The longest record is 45 bytes."
-abbrev pub greatestLength : ℕ
-greatestLength = 45
-
 -- no record of the version is longer than n bytes, and one has n
 pub record LongestIs (version n : ℕ) : Type 0 where
   pub none : (c : Clock) (flag last : ℕ) → Says version c flag last → length (recordIn version c flag last) ≤ n
@@ -96,10 +109,25 @@ pub record LongestIs (version n : ℕ) : Type 0 where
   pub says : Says version one flag last
   pub long : length (recordIn version one flag last) ≡ n
 
--- "The fresh clock, whole, in hexadecimal"
+-- "The longest record is 45 bytes", of version 1; with the count in the place of the second it is 42
+pub record Longest : Type 0 where
+  pub version1 : LongestIs 1 45
+  pub version2 : LongestIs 2 42
+
+-- the fresh clock's record, as it is written
 abbrev pub freshRecord : List ℕ
 freshRecord =
+    0x02 ∷ 0x00 ∷ 0x00 ∷ 0x00 ∷ 0x00 ∷ 0x00 ∷ 0x80 ∷ 0x80 ∷ 0x80 ∷ 0x40 ∷ 0x00 ∷ 0x00 ∷ 0x00 ∷ 0x80 ∷ 0xC8 ∷ 0xD0 ∷ 0x07 ∷ 0x80 ∷ 0xC8 ∷ 0xD0 ∷ 0x07 ∷ 0x04 ∷ []
+
+-- document 01's, of version 1: "The fresh clock, whole, in hexadecimal"
+abbrev pub freshRecord1 : List ℕ
+freshRecord1 =
     0x01 ∷ 0x00 ∷ 0x00 ∷ 0x00 ∷ 0x00 ∷ 0x00 ∷ 0x80 ∷ 0x80 ∷ 0x80 ∷ 0x40 ∷ 0x00 ∷ 0x00 ∷ 0x00 ∷ 0x80 ∷ 0xC8 ∷ 0xD0 ∷ 0x07 ∷ 0x80 ∷ 0xC8 ∷ 0xD0 ∷ 0x07 ∷ 0x04 ∷ []
+
+-- the one is written, and the other is still read
+pub record FreshRecords : Type 0 where
+  pub written : recordOf freshClock ≡ freshRecord
+  pub read : readingOf freshRecord1 ≡ accepted freshClock
 
 -- ---- through a buffer
 

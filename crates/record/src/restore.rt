@@ -3,7 +3,7 @@ ghost use mathlib.Core.Path.{_≡_};
 ghost use Rattle.number.specs.Layout.{whole, readFrom};
 ghost use Rattle.record.specs.Reading.{restored, readingOf, refusedWith};
 ghost use Rattle.number.specs.Inner.{refusedAs};
-ghost use Rattle.record.specs.Inner.{toldField, lastReftime, fromTime, fromLoop, fromRate, fromUpdate, fromErrors};
+ghost use Rattle.record.specs.Inner.{toldField, lastMost, fromTime, fromLoop, fromRate, fromUpdate, fromErrors};
 use crate::field::Field;
 use crate::field::plain;
 use crate::field::signed;
@@ -15,12 +15,14 @@ use crate::groups::Rate;
 use crate::groups::Time;
 use crate::groups::Update;
 use crate::groups::clock_of;
+use crate::groups::kept_update;
 use clock::Clock;
 use clock::LAST_MICRO;
 use clock::LAST_SECOND;
 use clock::MAX_CONSTANT;
 use clock::MAX_ERROR;
 use clock::MAX_FREQUENCY;
+use clock::MAX_INTERVAL;
 use clock::MAX_OFFSET;
 use clock::PHASE_UPPER_END;
 use clock::RECORDER_256;
@@ -62,11 +64,17 @@ fn refused(d: Field) -> Restored
     }
 }
 
-// The largest second of an earlier update: 0 where there is none.
-fn last_reftime(updated: u32) -> u32
-    ensures { λ r. ⌜ r ≡ lastReftime updated ⌝ }
+// The largest number behind the flag of an earlier update: its second in version 1, the rollovers since it later; 0 where there is none.
+fn last_most(version: u32, flag: u32) -> u32
+    ensures { λ r. ⌜ r ≡ lastMost version flag ⌝ }
 {
-    if updated == 1 { LAST_SECOND } else { 0 }
+    if flag != 1 {
+        return 0;
+    }
+    match version {
+        1 => LAST_SECOND,
+        _ => MAX_INTERVAL,
+    }
 }
 
 // The clock that the bytes are a record of.
@@ -147,23 +155,19 @@ fn rate_fields(bytes: &[u8], at: usize, h: Head, t: Time, l: Loop) -> Restored
     update_fields(bytes, n2, h, t, l, a)
 }
 
-// The earlier update: its flag and its second.
+// The earlier update: its flag, and its second or the rollovers since it.
 fn update_fields(bytes: &[u8], at: usize, h: Head, t: Time, l: Loop, a: Rate) -> Restored
     ensures { λ r. ⌜ r ≡ restored (readFrom (fromUpdate h t l a) (now (bytes .entry)) at) ⌝ }
 {
     let d1 = plain(bytes, at, 1);
-    let Field::Value(updated, n1) = d1 else {
+    let Field::Value(flag, n1) = d1 else {
         return refused(d1);
     };
-    let d2 = plain(bytes, n1, last_reftime(updated));
-    let Field::Value(reftime, n2) = d2 else {
+    let d2 = plain(bytes, n1, last_most(h.version, flag));
+    let Field::Value(last, n2) = d2 else {
         return refused(d2);
     };
-    let updated = updated as u8;
-    let u = Update {
-        updated: updated,
-        reftime: reftime,
-    };
+    let u = kept_update(h.version, flag as u8, last);
     error_fields(bytes, n2, h, t, l, a, u)
 }
 
