@@ -21,6 +21,7 @@
 #define MAX_ERROR 16000000
 #define MAX_FREQUENCY 1677721600
 #define MAX_LEFT 2097135616
+#define MAX_INTERVAL 1024
 #define PHASE_US (1 << 28) /* phase units in a microsecond */
 #define BASE 67108864      /* the 64 us a second that 256 x 3,906 us lack */
 
@@ -37,7 +38,7 @@ struct clock {
 	int32_t adjustment;
 	uint8_t constant;
 	uint8_t updated;
-	uint32_t reftime;
+	uint32_t interval;
 	uint32_t maxerror;
 	uint32_t esterror;
 	uint8_t status;
@@ -68,7 +69,7 @@ static bool in_range(const struct clock *c)
 		&& -MAX_FREQUENCY <= c->frequency && c->frequency <= MAX_FREQUENCY
 		&& -168819712 <= c->adjustment && c->adjustment <= 303037440
 		&& c->constant <= 4
-		&& c->updated <= 1 && (c->updated || c->reftime == 0)
+		&& c->updated <= 1 && c->interval <= c->updated * MAX_INTERVAL
 		&& c->maxerror <= MAX_ERROR
 		&& c->esterror <= MAX_ERROR
 		&& c->status <= BAD;
@@ -103,6 +104,7 @@ static __attribute__((noinline)) void rollover(struct clock *c)
 	int32_t share = c->offset / (1 << (10 + c->constant));
 	c->offset -= share;
 	c->adjustment = 64 * share + c->frequency / 16 + BASE;
+	c->interval += c->interval < c->updated * MAX_INTERVAL;
 	leap(c);
 }
 
@@ -184,7 +186,7 @@ static inline struct run run_looped(struct clock *c, uint64_t n, bool stop)
 	return (struct run){ n - left, refusal };
 }
 
-/* A rollover with what does not change in a run worked out before it. */
+/* A rollover but for its count, with what does not change in a run worked out before it. */
 static inline void roll(struct clock *c, int32_t divisor, int32_t base)
 {
 	c->seconds++;
@@ -197,16 +199,24 @@ static inline void roll(struct clock *c, int32_t divisor, int32_t base)
 	leap(c);
 }
 
+/* The interval after a run, of the one before it and the run's rollovers together: limited once. */
+static inline uint32_t counted(const struct clock *c, uint64_t rolled)
+{
+	const uint32_t most = c->updated * MAX_INTERVAL;
+	return rolled < most ? rolled : most;
+}
+
 /*
  * On a state that was judged once, the ticks of a second in one step. Between rollovers the adjustment is constant, so j ticks carry
  * (phase + j adjustments) / 2^28 whole microseconds. A tick adds at most 3,908 us, so none but the last of the j can reach the end.
- * The state in a copy, the count downwards, the usual case first, in line: of the forms tried the fewest instructions for a second of ticks.
+ * The state in a copy, the count downwards, the usual case first, in line: of the forms tried the fewest instructions for a second of ticks,
+ * but for one that limits the interval at each rollover: that saves one instruction of 135 there, and costs four in a hundred for many seconds.
  */
 static inline __attribute__((always_inline)) struct run run_closed(struct clock *state, uint64_t n, bool stop)
 {
 	struct clock c = *state;
 	const int32_t divisor = 1 << (10 + c.constant), base = c.frequency / 16 + BASE;
-	uint64_t left = n;
+	uint64_t left = n, rolled = c.interval;
 	int refusal = 0;
 	while (left) {
 		uint64_t j = (999999 - c.micros) / 3908 + 1;
@@ -228,6 +238,7 @@ static inline __attribute__((always_inline)) struct run run_closed(struct clock 
 			}
 			micros -= 1000000;
 			roll(&c, divisor, base);
+			rolled++;
 			if (stop) {
 				n -= left - j;
 				left = j;
@@ -237,6 +248,7 @@ static inline __attribute__((always_inline)) struct run run_closed(struct clock 
 		c.micros = micros;
 		c.phase = sum - carry * (int64_t)PHASE_US;
 	}
+	c.interval = counted(&c, rolled);
 	*state = c;
 	return (struct run){ n - left, refusal };
 }
@@ -255,7 +267,7 @@ static inline __attribute__((always_inline)) struct run run_position(struct cloc
 	struct clock c = *state;
 	const int32_t divisor = 1 << (10 + c.constant), base = c.frequency / 16 + BASE;
 	const int64_t second = INT64_C(1000000) << 28;
-	uint64_t left = n;
+	uint64_t left = n, rolled = c.interval;
 	int refusal = 0;
 	bool stopped = false;
 	if (likely(c.phase >= 0)) {
@@ -275,6 +287,7 @@ static inline __attribute__((always_inline)) struct run run_position(struct cloc
 				}
 				at -= second;
 				roll(&c, divisor, base);
+				rolled++;
 				if (stop) {
 					left -= j;
 					stopped = true;
@@ -285,6 +298,7 @@ static inline __attribute__((always_inline)) struct run run_position(struct cloc
 		}
 		c.micros = at >> 28;
 		c.phase = at & (PHASE_US - 1);
+		c.interval = counted(&c, rolled);
 	}
 	*state = c;
 	if (unlikely(left && !refusal && !stopped)) {
@@ -328,7 +342,7 @@ static int set(struct clock *c, uint64_t seconds, uint64_t micros)
 	c->offset = 0;
 	c->adjustment = c->frequency / 16 + BASE;
 	c->updated = 0;
-	c->reftime = 0;
+	c->interval = 0;
 	c->maxerror = MAX_ERROR;
 	c->esterror = MAX_ERROR;
 	c->status = BAD;
@@ -372,17 +386,11 @@ static int adjust(struct clock *c, const struct request *r)
 	if (r->mode & CONSTANT)
 		c->constant = r->constant;
 	if (r->mode & OFFSET) {
-		uint32_t interval = 0;
-		if (c->updated && c->seconds > c->reftime) {
-			interval = c->seconds - c->reftime;
-			if (interval > 1024)
-				interval = 1024;
-		}
 		c->offset = (int32_t)r->offset * (1 << 14);
-		int32_t f = c->frequency + (int32_t)r->offset * (int32_t)interval / (1 << (2 * c->constant));
+		int32_t f = c->frequency + (int32_t)r->offset * (int32_t)c->interval / (1 << (2 * c->constant));
 		c->frequency = f < -MAX_FREQUENCY ? -MAX_FREQUENCY : f > MAX_FREQUENCY ? MAX_FREQUENCY : f;
 		c->updated = 1;
-		c->reftime = c->seconds;
+		c->interval = 0;
 		if (c->status == BAD && !((r->mode & STATUS) && r->status == BAD))
 			c->status = OK;
 	}
@@ -437,7 +445,7 @@ static uint32_t map(int32_t v)
 	return (uint32_t)v << 1 ^ (uint32_t)(v >> 31);
 }
 
-/* Records. */
+/* Records. Version 2 is written; in version 1 the second of the last offset stands at the place of the interval. */
 
 #define RECORD_NUMBERS 13
 
@@ -447,7 +455,7 @@ static int record_write(const struct clock *c, uint8_t *buf, size_t len, size_t 
 	if (!in_range(c))
 		return 1;
 	const uint32_t numbers[RECORD_NUMBERS] = {
-		1,
+		2,
 		c->seconds,
 		c->micros,
 		map(c->phase),
@@ -456,7 +464,7 @@ static int record_write(const struct clock *c, uint8_t *buf, size_t len, size_t 
 		map(c->adjustment),
 		c->constant,
 		c->updated,
-		c->reftime,
+		c->interval,
 		c->maxerror,
 		c->esterror,
 		c->status,
@@ -506,7 +514,7 @@ static int fields_read(const uint8_t *bytes, size_t len, struct clock *c)
 	size_t at = 0;
 	uint32_t version, constant, updated, status;
 	int refusal;
-	if ((refusal = plain_field(bytes, len, &at, 1, 1, &version))
+	if ((refusal = plain_field(bytes, len, &at, 1, 2, &version))
 		|| (refusal = plain_field(bytes, len, &at, 0, LAST_SECOND, &c->seconds))
 		|| (refusal = plain_field(bytes, len, &at, 0, 999999, &c->micros))
 		|| (refusal = signed_field(bytes, len, &at, 1 - PHASE_US, PHASE_US - 1, &c->phase))
@@ -515,7 +523,7 @@ static int fields_read(const uint8_t *bytes, size_t len, struct clock *c)
 		|| (refusal = signed_field(bytes, len, &at, -168819712, 303037440, &c->adjustment))
 		|| (refusal = plain_field(bytes, len, &at, 0, 4, &constant))
 		|| (refusal = plain_field(bytes, len, &at, 0, 1, &updated))
-		|| (refusal = plain_field(bytes, len, &at, 0, updated ? LAST_SECOND : 0, &c->reftime))
+		|| (refusal = plain_field(bytes, len, &at, 0, !updated ? 0 : version == 1 ? LAST_SECOND : MAX_INTERVAL, &c->interval))
 		|| (refusal = plain_field(bytes, len, &at, 0, MAX_ERROR, &c->maxerror))
 		|| (refusal = plain_field(bytes, len, &at, 0, MAX_ERROR, &c->esterror))
 		|| (refusal = plain_field(bytes, len, &at, 0, BAD, &status)))
@@ -525,6 +533,10 @@ static int fields_read(const uint8_t *bytes, size_t len, struct clock *c)
 	c->constant = constant;
 	c->updated = updated;
 	c->status = status;
+	if (version == 1) {
+		c->updated = 0;
+		c->interval = 0;
+	}
 	return 0;
 }
 
@@ -743,7 +755,7 @@ static uint64_t mix_clock(uint64_t sum, const struct clock *c)
 	sum = mix(mix(sum, map(c->phase)), map(c->offset));
 	sum = mix(mix(sum, map(c->frequency)), map(c->adjustment));
 	sum = mix(mix(sum, c->constant), c->updated);
-	sum = mix(mix(sum, c->reftime), c->maxerror);
+	sum = mix(mix(sum, c->interval), c->maxerror);
 	return mix(mix(sum, c->esterror), c->status);
 }
 
@@ -772,7 +784,7 @@ static struct clock begun(const uint64_t *values)
 		.adjustment = small(values, 40) * 1677721,
 		.constant = small(values, 2),
 		.updated = small(values, 1),
-		.reftime = small(values, 43) * 2000,
+		.interval = small(values, 0),
 		.maxerror = small(values, 16) * 1000000,
 		.esterror = small(values, 16) * 1000000,
 		.status = small(values, 0),
@@ -834,7 +846,8 @@ static uint64_t request_some(struct clock *c, uint64_t count)
 		};
 		int refusal = adjust(c, &r);
 		sum = mix(mix(sum, refusal), c->status);
-		c->seconds += 16;
+		c->seconds += 64;
+		c->interval = c->interval % 960 + 64;
 	}
 	return sum;
 }

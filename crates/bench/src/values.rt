@@ -39,9 +39,8 @@ pub(crate) fn begun(values: &[u64; 64]) -> Clock {
     let frequency = Frequency((small(values, 12) * 10288) as i32);
     let adjustment = PhaseUnits((small(values, 40) * 1677721) as i32);
     let maxerror = Micros(small(values, 16) * 1000000);
-    let seconds = small(values, 43) * 2000;
     Clock {
-        seconds: seconds,
+        seconds: small(values, 43) * 2000,
         micros: micros,
         phase: phase,
         offset: offset,
@@ -49,7 +48,7 @@ pub(crate) fn begun(values: &[u64; 64]) -> Clock {
         adjustment: adjustment,
         constant: byte_at(values, 2),
         updated: byte_at(values, 1),
-        reftime: seconds,
+        interval: small(values, 0),
         maxerror: maxerror,
         esterror: maxerror,
         status: byte_at(values, 0),
