@@ -1,22 +1,24 @@
 -- The laws of every layout of a record, by induction on it: no field is named here. `read-back` reads what was written, `taken` says what
--- was written where a reading was accepted, `known` which refusals there are, `no-longer` how long a record can be.
+-- was written where a reading was accepted, `known` which refusals there are, `layout-exactly-when` when each is given, `no-longer` how
+-- long a record can be.
 use mathlib.Core.Path.{_≡_, refl, sym, _∙_, ap}
-use mathlib.Core.Bool.{Bool, true, false, _&&_, false≢true, and-assoc, and-false}
+use mathlib.Core.Bool.{Bool, true, false, cond, _&&_, false≢true, and-assoc, and-false}
 use mathlib.Core.Bool.{and-true as and-one}
 use mathlib.Core.List.{List, [], _∷_}
-use mathlib.Core.Logic.{⊎-elim}
+use mathlib.Core.Logic.{_⊎_, inl, inr, ⊎-elim}
 use Prim.Native.Nat.{ℕ, suc, _+_, _^_, _<_, _≤_}
 use native.Mathlib.Nat.{pow-le-pow-right}
 use native.Mathlib.Omega.{arith}
-use lib.Dec.{ltb}
+use lib.Dec.{ltb, eqb}
 use lib.ListN.{length, getD}
-use borrow.Author.Tests.{ltb-false, lt-ltb, le-ltb}
+use borrow.Author.Tests.{ltb-true, ltb-false, lt-ltb, le-ltb, eqb-true}
 use Rattle.integers.proofs.Ranges.{and-true, true-and}
 use Rattle.number.specs.Form.{limit, bytesOfAll}
 use Rattle.number.specs.Reading.{Found, number, refused, numberAt}
 use Rattle.number.specs.Sequence.{then}
 use Rattle.number.specs.Inner.{refusedAs}
-use Rattle.number.specs.Layout.{judgedBy, fieldAt, Layout, field, whole, Outcome, got, failed, readFrom}
+use Rattle.number.specs.Layout.{judgedBy, fieldAt, placeAt, Layout, place, whole, Outcome, got, failed, readFrom}
+use Rattle.number.specs.Stopping.{Stops, LayoutExactlyWhen, Outside, FieldExactlyWhen}
 use Rattle.number.proofs.Lists.{either}
 use Rattle.number.proofs.WrittenRead.{Holds, written-read}
 use Rattle.number.proofs.Chain.{Ahead, ahead-first, ahead-rest, ahead-end, _◂_, ahead-none}
@@ -26,102 +28,109 @@ use Rattle.number.proofs.Sizes.{sizes-below, sizes-none}
 
 -- ---- the numbers of a record
 
--- a number for each field
+-- a number for each place: in its range, and 0 where the place is not there
 unfoldable pub Choice : {A : Type 0} → Layout A → Type 0
-Choice (field range rest) = record { n : ℕ; small : n < limit; fits : range n ≡ true; more : Choice (rest n) }
+Choice (place here range rest) = record { n : ℕ; small : n < limit; fits : cond here (range n) (eqb n 0) ≡ true; more : Choice (rest n) }
 Choice (whole saved) = record {}
 
--- the numbers, and what they stand for
+-- the numbers that are written, and what they stand for
 unfoldable pub chosen : {A : Type 0} (l : Layout A) → Choice l → List ℕ
 unfolding Choice
-chosen (field range rest) k = k .n ∷ chosen (rest (k .n)) (k .more)
+chosen (place here range rest) k = cond here (k .n ∷ chosen (rest (k .n)) (k .more)) (chosen (rest (k .n)) (k .more))
 chosen (whole saved) k = []
 
 unfoldable pub stands : {A : Type 0} (l : Layout A) → Choice l → A
 unfolding Choice
-stands (field range rest) k = stands (rest (k .n)) (k .more)
+stands (place here range rest) k = stands (rest (k .n)) (k .more)
 stands (whole saved) k = saved
 
 -- ---- numbers that a layout allows
 
 unfoldable pub allows : {A : Type 0} → Layout A → List ℕ → Bool
-allows (field range rest) [] = false
-allows (field range rest) (n ∷ ns) = range n && allows (rest n) ns
+allows (place true range rest) [] = false
+allows (place true range rest) (n ∷ ns) = range n && allows (rest n) ns
+allows (place false range rest) ns = allows (rest 0) ns
 allows (whole saved) [] = true
 allows (whole saved) (n ∷ ns) = false
 
 -- the same tests, joined from the first on, after others
 unfoldable pub joined : {A : Type 0} → Bool → Layout A → List ℕ → Bool
-joined so (field range rest) [] = false
-joined so (field range rest) (n ∷ ns) = joined (so && range n) (rest n) ns
+joined so (place true range rest) [] = false
+joined so (place true range rest) (n ∷ ns) = joined (so && range n) (rest n) ns
+joined so (place false range rest) ns = joined so (rest 0) ns
 joined so (whole saved) [] = so
 joined so (whole saved) (n ∷ ns) = false
 
 pub allows-joined : {A : Type 0} (so : Bool) (l : Layout A) (ns : List ℕ) → so && allows l ns ≡ joined so l ns
 unfolding allows joined
-allows-joined so (field range rest) [] = and-false so
-allows-joined so (field range rest) (n ∷ ns) = sym (and-assoc so (range n) (allows (rest n) ns)) ∙ allows-joined (so && range n) (rest n) ns
+allows-joined so (place true range rest) [] = and-false so
+allows-joined so (place true range rest) (n ∷ ns) = sym (and-assoc so (range n) (allows (rest n) ns)) ∙ allows-joined (so && range n) (rest n) ns
+allows-joined so (place false range rest) ns = allows-joined so (rest 0) ns
 allows-joined so (whole saved) [] = and-one so
 allows-joined so (whole saved) (n ∷ ns) = and-false so
 
--- .. are written in m bytes at most, none of them in more than five
-unfoldable pub AtMost : {A : Type 0} → Layout A → ℕ → Type 0
-AtMost (field range rest) m =
-    record { k : ℕ; left : ℕ; five : k < 5; sum : suc k + left ≤ m; small : (n : ℕ) → range n ≡ true → n < 128 ^ suc k; more : (n : ℕ) → AtMost (rest n) left }
-AtMost (whole saved) m = Unit {0}
+-- .. are small: at each place they have k + 1 bytes at most, and never more than five
+unfoldable pub Sized : {A : Type 0} → Layout A → Type 0
+Sized (place here range rest) = record { k : ℕ; five : k < 5; small : (n : ℕ) → range n ≡ true → n < 128 ^ suc k; more : (n : ℕ) → Sized (rest n) }
+Sized (whole saved) = Unit {0}
 
--- one field more, of k + 1 bytes at most
-pub longer : {A : Type 0} (k left : ℕ) (range : ℕ → Bool) (rest : ℕ → Layout A) → k < 5 → ((n : ℕ) → range n ≡ true → n < 128 ^ suc k)
-    → ((n : ℕ) → AtMost (rest n) left) → AtMost (field range rest) (suc k + left)
-unfolding AtMost
-longer k left range rest five small more = record { k = k; left = left; five = five; sum = omega arith; small = small; more = more }
+unfoldable pub sized : {A : Type 0} (k : ℕ) (here : Bool) (range : ℕ → Bool) (rest : ℕ → Layout A) → k < 5 → ((n : ℕ) → range n ≡ true → n < 128 ^ suc k)
+    → ((n : ℕ) → Sized (rest n)) → Sized (place here range rest)
+unfolding Sized
+sized k here range rest five small more = record { k = k; five = five; small = small; more = more }
 
-pub nothing : {A : Type 0} (saved : A) → AtMost (whole saved) 0
-unfolding AtMost
-nothing saved = tt
+unfoldable pub sized-end : {A : Type 0} (saved : A) → Sized (whole saved)
+unfolding Sized
+sized-end saved = tt
 
 -- so they are a choice
-unfoldable pub choose : {A : Type 0} (l : Layout A) (m : ℕ) → AtMost l m → (ns : List ℕ) → allows l ns ≡ true → Choice l
-unfolding Choice AtMost allows
-choose (field range rest) m b [] e = absurd (false≢true e)
-choose (field range rest) m b (n ∷ ns) e =
+unfoldable pub choose : {A : Type 0} (l : Layout A) → Sized l → (ns : List ℕ) → allows l ns ≡ true → Choice l
+unfolding Choice Sized allows
+choose (place true range rest) b [] e = absurd (false≢true e)
+choose (place true range rest) b (n ∷ ns) e =
     let w = and-true (range n) (allows (rest n) ns) e in
     let p : 128 ^ suc (b .k) ≤ 128 ^ 5 = pow-le-pow-right (omega arith) {i = suc (b .k)} {j = 5} (omega (arith, b .five)) in
-    record { n = n; small = omega (arith, b .small n (w .0)); fits = w .0; more = choose (rest n) (b .left) (b .more n) ns (w .1) }
-choose (whole saved) m b [] e = record {}
-choose (whole saved) m b (n ∷ ns) e = absurd (false≢true e)
+    record { n = n; small = omega (arith, b .small n (w .0)); fits = w .0; more = choose (rest n) (b .more n) ns (w .1) }
+choose (place false range rest) b ns e = record { n = 0; small = omega arith; fits = refl; more = choose (rest 0) (b .more 0) ns e }
+choose (whole saved) b [] e = record {}
+choose (whole saved) b (n ∷ ns) e = absurd (false≢true e)
 
-pub choose-chosen : {A : Type 0} (l : Layout A) (m : ℕ) (b : AtMost l m) (ns : List ℕ) (e : allows l ns ≡ true) → chosen l (choose l m b ns e) ≡ ns
-unfolding choose chosen Choice AtMost allows
-choose-chosen (field range rest) m b [] e = absurd (false≢true e)
-choose-chosen (field range rest) m b (n ∷ ns) e =
-    ap (λ (x : List ℕ). n ∷ x) (choose-chosen (rest n) (b .left) (b .more n) ns (and-true (range n) (allows (rest n) ns) e .1))
-choose-chosen (whole saved) m b [] e = refl
-choose-chosen (whole saved) m b (n ∷ ns) e = absurd (false≢true e)
+pub choose-chosen : {A : Type 0} (l : Layout A) (b : Sized l) (ns : List ℕ) (e : allows l ns ≡ true) → chosen l (choose l b ns e) ≡ ns
+unfolding choose chosen Choice Sized allows
+choose-chosen (place true range rest) b [] e = absurd (false≢true e)
+choose-chosen (place true range rest) b (n ∷ ns) e =
+    ap (λ (x : List ℕ). n ∷ x) (choose-chosen (rest n) (b .more n) ns (and-true (range n) (allows (rest n) ns) e .1))
+choose-chosen (place false range rest) b ns e = choose-chosen (rest 0) (b .more 0) ns e
+choose-chosen (whole saved) b [] e = refl
+choose-chosen (whole saved) b (n ∷ ns) e = absurd (false≢true e)
 
 -- and a choice is allowed
 pub chosen-allowed : {A : Type 0} (l : Layout A) (k : Choice l) → allows l (chosen l k) ≡ true
 unfolding chosen Choice allows
-chosen-allowed (field range rest) k = true-and (k .fits) (chosen-allowed (rest (k .n)) (k .more))
+chosen-allowed (place true range rest) k = true-and (k .fits) (chosen-allowed (rest (k .n)) (k .more))
+chosen-allowed (place false range rest) k =
+    ap (λ (n : ℕ). allows (rest n) (chosen (rest (k .n)) (k .more))) (sym (eqb-true (k .n) 0 (k .fits))) ∙ chosen-allowed (rest (k .n)) (k .more)
 chosen-allowed (whole saved) k = refl
 
--- how long a record can be
-pub no-longer : {A : Type 0} (l : Layout A) (m : ℕ) → AtMost l m → (k : Choice l) → length (bytesOfAll (chosen l k)) ≤ m
-unfolding chosen Choice AtMost
-no-longer (field range rest) m b k =
-    omega (
-      arith,
-      b .sum,
-      sizes-below (b .k) (b .left) (k .n) (chosen (rest (k .n)) (k .more)) (b .small (k .n) (k .fits)) (no-longer (rest (k .n)) (b .left) (b .more (k .n)) (k .more)),
-    )
-no-longer (whole saved) m b k = omega (arith, sizes-none)
+-- how many bytes the places of a choice have at most, and so how long its record can be
+unfoldable pub most : {A : Type 0} (l : Layout A) → Sized l → Choice l → ℕ
+unfolding Sized Choice
+most (place here range rest) b k = cond here (suc (b .k)) 0 + most (rest (k .n)) (b .more (k .n)) (k .more)
+most (whole saved) b k = 0
+
+pub no-longer : {A : Type 0} (l : Layout A) (b : Sized l) (k : Choice l) → length (bytesOfAll (chosen l k)) ≤ most l b k
+unfolding chosen Choice Sized most
+no-longer (place true range rest) b k =
+    sizes-below (b .k) _ (k .n) _ (b .small (k .n) (k .fits)) (no-longer (rest (k .n)) (b .more (k .n)) (k .more))
+no-longer (place false range rest) b k = omega (arith, no-longer (rest (k .n)) (b .more (k .n)) (k .more))
+no-longer (whole saved) b k = sizes-none
 
 -- ---- a field, by the number that stands there
 
-opened : {A : Type 0} (range : ℕ → Bool) (rest : ℕ → Layout A) (s : List ℕ) (at : ℕ)
-    → readFrom (field range rest) s at ≡ then failed (fieldAt range s at) (λ n next. readFrom (rest n) s next)
+opened : {A : Type 0} (here : Bool) (range : ℕ → Bool) (rest : ℕ → Layout A) (s : List ℕ) (at : ℕ)
+    → readFrom (place here range rest) s at ≡ then failed (placeAt here range s at) (λ n next. readFrom (rest n) s next)
 unfolding readFrom
-opened range rest s at = refl
+opened here range rest s at = refl
 
 module _ {A : Type 0} (range : ℕ → Bool) (s : List ℕ) (at : ℕ) (go : ℕ → ℕ → Outcome A) where
   on-read : {v next : ℕ} → numberAt s at ≡ number v next → range v ≡ true → then failed (fieldAt range s at) go ≡ go v next
@@ -140,9 +149,11 @@ module _ {A : Type 0} (range : ℕ → Bool) (s : List ℕ) (at : ℕ) (go : ℕ
 
 read-on : {A : Type 0} (l : Layout A) (k : Choice l) {s after : List ℕ} {at : ℕ} {x : Outcome A} → Ahead s at (chosen l k) after
     → ((end : ℕ) → Ahead s end [] after → readFrom (whole (stands l k)) s end ≡ x) → readFrom l s at ≡ x
-unfolding readFrom chosen stands Choice
-read-on (field range rest) k {s} {after} {at} a end =
+unfolding readFrom chosen stands Choice then
+read-on (place true range rest) k {s} {after} {at} a end =
     on-read range s at (λ n next. readFrom (rest n) s next) (ahead-first a (k .small)) (k .fits) ∙ read-on (rest (k .n)) (k .more) (ahead-rest a) end
+read-on (place false range rest) k {s} {at = at} a end =
+    ap (λ (n : ℕ). readFrom (rest n) s at) (sym (eqb-true (k .n) 0 (k .fits))) ∙ read-on (rest (k .n)) (k .more) a end
 read-on (whole saved) k {at = at} a end = end at a
 
 pub read-back : {A : Type 0} (l : Layout A) (k : Choice l) {s : List ℕ} {at : ℕ} → Ahead s at (chosen l k) [] → readFrom l s at ≡ got (stands l k)
@@ -186,11 +197,14 @@ module _ {A : Type 0} (s : List ℕ) (bytes : (i : ℕ) → getD s i 0 < 256) (s
       (either (ltb at (length s)))
 
   pub taken : (l : Layout A) (at : ℕ) → readFrom l s at ≡ got saved → Taken l s at saved
-  unfolding readFrom chosen stands Choice
-  taken (field range rest) at e =
+  unfolding readFrom chosen stands Choice then
+  taken (place true range rest) at e =
       was-found range at (λ n next. readFrom (rest n) s next) (numberAt s at) refl e (λ n next h w e'.
       let t = taken (rest n) next e' in
       record { choice = record { n = n; small = h .small; fits = w; more = t .choice }; ahead = h ◂ t .ahead; is = t .is })
+  taken (place false range rest) at e =
+      let t = taken (rest 0) at e in
+      record { choice = record { n = 0; small = omega arith; fits = refl; more = t .choice }; ahead = t .ahead; is = t .is }
   taken (whole a) at e = let w = was-end at a e in record { choice = record {}; ahead = w .0; is = w .1 }
 
 -- ---- which refusals there are
@@ -212,38 +226,98 @@ module _ {A : Type 0} (s : List ℕ) where
   known-found range at go (refused r) e on = rw (on-refused range s at go e) (refused-known s at e)
 
   pub known : (l : Layout A) (at : ℕ) → Known (readFrom l s at)
-  unfolding readFrom
-  known (field range rest) at = known-found range at (λ n next. readFrom (rest n) s next) (numberAt s at) refl (λ n next. known (rest n) next)
+  unfolding readFrom then
+  known (place true range rest) at = known-found range at (λ n next. readFrom (rest n) s next) (numberAt s at) refl (λ n next. known (rest n) next)
+  known (place false range rest) at = known (rest 0) at
   known (whole saved) at =
       ⊎-elim (λ (t : ltb at (length s) ≡ true). simp t (omega arith, omega arith)) (λ (t : ltb at (length s) ≡ false). simp t tt)
       (either (ltb at (length s)))
+
+-- ---- where a reading stops
+
+module _ (range : ℕ → Bool) (s : List ℕ) (at r : ℕ) where
+  fails-only : (x : Found) → numberAt s at ≡ x → judgedBy range x ≡ refused r → (numberAt s at ≡ refused r) ⊎ (Outside range s at × (r ≡ 12))
+  unfolding judgedBy
+  fails-only (number v k) e f =
+      ⊎-elim
+      (λ (t : range v ≡ true).
+      let g : number v k ≡ refused r = simp t at f in
+      let z : _≡_ {A = ℕ} 0 1 = cc in
+      absurd (omega arith))
+      (λ (t : range v ≡ false).
+      let g : refused 12 ≡ refused r = simp t at f in
+      inr (record { value = v; next = k; read = e; out = t }, cc))
+      (either (range v))
+  fails-only (refused n) e f = inl (e ∙ f)
+
+pub field-exactly-when : FieldExactlyWhen
+unfolding fieldAt judgedBy
+field-exactly-when range s at r =
+    record {
+      only = fails-only range s at r (numberAt s at) refl;
+      unread = λ e. ap (judgedBy range) e;
+      outside = λ o. ap (judgedBy range) (o .read) ∙ simp (o .out);
+    }
+
+module _ {A : Type 0} (s : List ℕ) (r : ℕ) where
+  stops-found : (go : ℕ → ℕ → Outcome A) (Later : ℕ → ℕ → Type 0) (x y : Found) → x ≡ y → then failed y go ≡ failed r
+      → ((n next : ℕ) → go n next ≡ failed r → Later n next) → (x ≡ refused r) ⊎ record { n : ℕ; next : ℕ; read : x ≡ number n next; later : Later n next }
+  unfolding then
+  stops-found go Later x (number n k) e f on = inr (record { n = n; next = k; read = e; later = on n k f })
+  stops-found go Later x (refused q) e f on =
+      let g : _≡_ {A = Outcome A} (failed q) (failed r) = f in
+      inl (e ∙ ap refused (cc))
+
+  stops : (l : Layout A) (at : ℕ) → readFrom l s at ≡ failed r → Stops l s at r
+  unfolding readFrom Stops
+  stops (place here range rest) at e =
+      stops-found (λ n next. readFrom (rest n) s next) (λ n next. Stops (rest n) s next r) (placeAt here range s at) (placeAt here range s at) refl e (λ n next. stops (rest n) next)
+  stops (whole saved) at e =
+      ⊎-elim
+      (λ (t : ltb at (length s) ≡ true).
+      let f : _≡_ {A = Outcome A} (failed 13) (failed r) = simp t at e in
+      (ltb-true at (length s) t, cc))
+      (λ (t : ltb at (length s) ≡ false). not-failed {saved = saved} e (simp t))
+      (either (ltb at (length s)))
+
+  stops-so : (l : Layout A) (at : ℕ) → Stops l s at r → readFrom l s at ≡ failed r
+  unfolding readFrom Stops then
+  stops-so (place here range rest) at h =
+      ⊎-elim (λ e. ap (λ (x : Found). then failed x (λ n next. readFrom (rest n) s next)) e)
+      (λ k. ap (λ (x : Found). then failed x (λ n next. readFrom (rest n) s next)) (k .read) ∙ stops-so (rest (k .n)) (k .next) (k .later))
+      h
+  stops-so (whole saved) at h = simp (lt-ltb at (length s) (h .0)) (ap failed (sym (h .1)))
+
+pub layout-exactly-when : LayoutExactlyWhen
+layout-exactly-when A l s at r = record { only = stops s r l at; always = stops-so s r l at }
 
 -- ---- how the reading of a record goes: the laws of `Sequence` at a field, whatever the reader makes of the outcome
 
 pub record AtField {A R : Type 0} (tell : Outcome A → R) : Type 0 where
   pub all : R
+  pub here : Bool
   pub range : ℕ → Bool
   pub rest : ℕ → Layout A
   pub bytes : List ℕ
   pub at : ℕ
-  pub is : all ≡ tell (readFrom (field range rest) bytes at)
+  pub is : all ≡ tell (readFrom (place here range rest) bytes at)
 
-module _ {A R : Type 0} {tell : Outcome A → R} (b : AtField tell) {x : Found} (e : x ≡ fieldAt (b .range) (b .bytes) (b .at)) where
-  abbrev here : Before (Outcome A)
-  here =
+module _ {A R : Type 0} {tell : Outcome A → R} (b : AtField tell) {x : Found} (e : x ≡ placeAt (b .here) (b .range) (b .bytes) (b .at)) where
+  abbrev before : Before (Outcome A)
+  before =
       record {
-        all = readFrom (field (b .range) (b .rest)) (b .bytes) (b .at);
+        all = readFrom (place (b .here) (b .range) (b .rest)) (b .bytes) (b .at);
         ends = failed;
-        found = fieldAt (b .range) (b .bytes) (b .at);
+        found = placeAt (b .here) (b .range) (b .bytes) (b .at);
         go = λ n next. readFrom (b .rest n) (b .bytes) next;
-        is = opened (b .range) (b .rest) (b .bytes) (b .at);
+        is = opened (b .here) (b .range) (b .rest) (b .bytes) (b .at);
       }
 
   -- the field was read
   pub field-went : {n next : ℕ} → x ≡ number n next → b .all ≡ tell (readFrom (b .rest n) (b .bytes) next)
-  field-went v = b .is ∙ ap tell (went here e v)
+  field-went v = b .is ∙ ap tell (went before e v)
 
   -- it was refused
   pub field-stopped : {r : ℕ} {answer : R} → x ≡ refused r → answer ≡ refusedAs (λ (n : ℕ). tell (failed n)) x → answer ≡ b .all
   field-stopped v p =
-      p ∙ ap (refusedAs (λ (n : ℕ). tell (failed n))) v ∙ ap tell (stopped here e v (sym (ap (refusedAs failed) v))) ∙ sym (b .is)
+      p ∙ ap (refusedAs (λ (n : ℕ). tell (failed n))) v ∙ ap tell (stopped before e v (sym (ap (refusedAs failed) v))) ∙ sym (b .is)

@@ -1,7 +1,7 @@
 -- Records of numbers, as they are read from any bytes: fields in their order, and then nothing more. For any type of what is saved; a
 -- crate that saves something gives its layout. Document 01: "A record reader takes fields in order, and a field that fails to read ends
 -- the reading with its number; .. 13 comes last."
-use mathlib.Core.Bool.{Bool, cond}
+use mathlib.Core.Bool.{Bool, true, cond}
 use mathlib.Core.List.{List}
 use Prim.Native.Nat.{ℕ}
 use lib.Dec.{ltb}
@@ -24,10 +24,19 @@ fieldAt range s at = judgedBy range (numberAt s at)
 abbrev pub mappedRange : (ℤ → Bool) → ℕ → Bool
 mappedRange range n = range (unmapped n)
 
--- A layout: a field, whose number says how the record goes on; or, after the last field, what the numbers before it stand for.
+-- A layout: a place, whose number says how the record goes on; or, after the last place, what the numbers before it stand for. A number
+-- that was read may decide that a later place is not there: it takes no bytes, and reads as 0.
 pub data Layout (A : Type 0) : Type 0 where
-  field : (range : ℕ → Bool) (rest : ℕ → Layout A) → Layout A
+  place : (here : Bool) (range : ℕ → Bool) (rest : ℕ → Layout A) → Layout A
   whole : (saved : A) → Layout A
+
+-- a field of every record
+abbrev pub field : {A : Type 0} → (ℕ → Bool) → (ℕ → Layout A) → Layout A
+field range rest = place true range rest
+
+-- what stands at place `at` of s, for a place of the layout
+abbrev pub placeAt : Bool → (ℕ → Bool) → List ℕ → ℕ → Found
+placeAt here range s at = cond here (fieldAt range s at) (number 0 at)
 
 -- What a reading gives: what was saved, or a number of document 01's table of refusals.
 pub data Outcome (A : Type 0) : Type 0 where
@@ -36,5 +45,5 @@ pub data Outcome (A : Type 0) : Type 0 where
 
 -- a reading from place `at` of s on; 13 "bytes after a record's end"
 unfoldable pub readFrom : {A : Type 0} → Layout A → List ℕ → ℕ → Outcome A
-readFrom (field range rest) s at = then failed (fieldAt range s at) (λ n next. readFrom (rest n) s next)
+readFrom (place here range rest) s at = then failed (placeAt here range s at) (λ n next. readFrom (rest n) s next)
 readFrom (whole saved) s at = cond (ltb at (length s)) (failed 13) (got saved)

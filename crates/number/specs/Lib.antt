@@ -5,3 +5,4 @@ pub mod Inner
 pub mod Writing
 pub mod Mapping
 pub mod Layout
+pub mod Stopping

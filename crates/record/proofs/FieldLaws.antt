@@ -12,9 +12,9 @@ use Rattle.number.specs.Reading.{Found, number, refused, numberAt, told}
 use Rattle.number.proofs.Lists.{either}
 use Rattle.clock.specs.State.{phaseRange, offsetRange, frequencyRange, adjustmentRange}
 use Rattle.number.specs.Layout.{judgedBy, fieldAt, mappedRange}
-use Rattle.record.specs.Layout.{reftimeRange}
-use Rattle.record.specs.Inner.{toldField, upTo, fromTo, mappedPhase, mappedOffset, mappedFrequency, mappedAdjustment, lastReftime}
-use Rattle.record.proofs.Ranges.{phase-test, offset-test, frequency-test, adjustment-test, reftime-bounds}
+use Rattle.record.specs.Layout.{lastRange}
+use Rattle.record.specs.Inner.{toldField, upTo, fromTo, mappedPhase, mappedOffset, mappedFrequency, mappedAdjustment, lastMost}
+use Rattle.record.proofs.Ranges.{phase-test, offset-test, frequency-test, adjustment-test, last-test}
 use Rattle.record.specs.declared.field.Field.{Field}
 use Rattle.record.specs.declared.field.Field.the-variants as F
 
@@ -58,9 +58,9 @@ frequency-field s at = field-same _ _ s at frequency-test
 pub adjustment-field : (s : List ℕ) (at : ℕ) → fieldAt (fromTo (negsuc 168819711) mappedAdjustment) s at ≡ fieldAt (mappedRange adjustmentRange) s at
 adjustment-field s at = field-same _ _ s at adjustment-test
 
--- the second of the earlier update, tested by the largest one that the flag allows
-pub reftime-field : (s : List ℕ) (at flag : ℕ) {most : ℕ} → most ≡ lastReftime flag → fieldAt (upTo most) s at ≡ fieldAt (reftimeRange flag) s at
-reftime-field s at flag e = ap (λ (m : ℕ). fieldAt (upTo m) s at) e ∙ field-same _ _ s at (reftime-bounds flag)
+-- what follows the flag of the earlier update, tested by the largest number that version and flag allow
+pub last-field : (s : List ℕ) (at version flag : ℕ) {m : ℕ} → m ≡ lastMost version flag → fieldAt (upTo m) s at ≡ fieldAt (lastRange version flag) s at
+last-field s at version flag e = ap (λ (m : ℕ). fieldAt (upTo m) s at) e ∙ field-same _ _ s at (last-test version flag)
 
 -- a field that was read is in its range
 judged-in : (range : ℕ → Bool) (x : Found) {v k : ℕ} → number v k ≡ judgedBy range x → range v ≡ true

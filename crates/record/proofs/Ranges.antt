@@ -1,6 +1,6 @@
 -- The ranges as the code tests them are those of the clock's table; and numbers in a range fit the types that hold them.
 use mathlib.Core.Path.{_≡_, refl, sym, _∙_, ap}
-use mathlib.Core.Bool.{Bool, true, false, _&&_}
+use mathlib.Core.Bool.{Bool, true, false, cond, _&&_}
 use mathlib.Core.Logic.{⊎-elim}
 use Prim.Native.Nat.{ℕ, zero, suc, _*_, _/_, _%_, _≤_, _<_}
 use native.Mathlib.Omega.{arith}
@@ -12,9 +12,9 @@ use borrow.Author.Tests.{leb-true, leb-false, le-leb, lt-leb, eqb-true, eqb-fals
 use Rattle.number.specs.Mapping.{unmapped}
 use Rattle.number.proofs.Lists.{either}
 use Rattle.number.specs.Layout.{mappedRange}
-use Rattle.clock.specs.State.{lastSecond, phaseRange, offsetRange, frequencyRange, adjustmentRange}
-use Rattle.record.specs.Layout.{reftimeRange}
-use Rattle.record.specs.Inner.{upTo, fromTo, betweenZ, mappedPhase, mappedOffset, mappedFrequency, mappedAdjustment, lastReftime}
+use Rattle.clock.specs.State.{lastSecond, longestInterval, zeroUnlessFlag, phaseRange, offsetRange, frequencyRange, adjustmentRange}
+use Rattle.record.specs.Layout.{lastRange}
+use Rattle.record.specs.Inner.{upTo, fromTo, betweenZ, mappedPhase, mappedOffset, mappedFrequency, mappedAdjustment, lastMost}
 
 -- above -2^28 and below 2^28
 phase-bounds : (z : ℤ) → betweenZ (negsuc 268435454) (pos 268435455) z ≡ phaseRange z
@@ -79,20 +79,19 @@ frequency-test = balanced 1677721599
 pub adjustment-test : (n : ℕ) → fromTo (negsuc 168819711) mappedAdjustment n ≡ mappedRange adjustmentRange n
 adjustment-test n = lopsided 168819711 303037440 n (lit< tt)
 
--- the second of the earlier update, by the flag
-flagged : (n : ℕ) → leb n lastSecond ≡ leb n lastSecond && true
-flagged n = ⊎-elim (λ (t : leb n lastSecond ≡ true). simp t) (λ (t : leb n lastSecond ≡ false). simp t) (either (leb n lastSecond))
+-- what follows the flag of the earlier update: up to m with the flag, and else 0
+zero-only : (m n : ℕ) → leb n 0 ≡ leb n m && eqb n 0
+zero-only m zero = sym (simp (le-leb 0 m (omega arith)))
+zero-only m (suc n) = lt-leb (suc n) 0 (omega arith) ∙ sym (simp (ne-eqb (suc n) 0 (λ h. omega arith)) (dropped (leb (suc n) m)))
 
-zero-only : (n : ℕ) → leb n 0 ≡ leb n lastSecond && eqb n 0
-zero-only zero = refl
-zero-only (suc n) =
-    lt-leb (suc n) 0 (omega arith)
-    ∙ sym (simp (ne-eqb (suc n) 0 (λ h. omega arith))
-    (⊎-elim (λ (t : leb (suc n) lastSecond ≡ true). simp t) (λ (t : leb (suc n) lastSecond ≡ false). simp t) (either (leb (suc n) lastSecond))))
+by-flag : (m flag n : ℕ) → upTo (cond (eqb flag 1) m 0) n ≡ leb n m && zeroUnlessFlag flag n
+by-flag m flag n =
+    ⊎-elim (λ (t : eqb flag 1 ≡ true). simp t (kept (leb n m))) (λ (t : eqb flag 1 ≡ false). simp t (zero-only m n)) (either (eqb flag 1))
 
-pub reftime-bounds : (flag n : ℕ) → upTo (lastReftime flag) n ≡ reftimeRange flag n
-reftime-bounds flag n =
-    ⊎-elim (λ (t : eqb flag 1 ≡ true). simp t (flagged n)) (λ (t : eqb flag 1 ≡ false). simp t (zero-only n)) (either (eqb flag 1))
+pub last-test : (version flag n : ℕ) → upTo (lastMost version flag) n ≡ lastRange version flag n
+last-test version flag n =
+    ⊎-elim (λ (t : eqb version 1 ≡ true). simp t (by-flag lastSecond flag n)) (λ (t : eqb version 1 ≡ false). simp t (by-flag longestInterval flag n))
+    (either (eqb version 1))
 
 -- ---- what fits
 

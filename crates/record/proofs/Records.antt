@@ -1,32 +1,35 @@
 -- The theorems on records: each proves a statement of specs/Properties.antt, by the laws that hold of every layout (number's `Layouts`).
 -- What is said of the fields one by one is how many bytes each can have.
 use mathlib.Core.Path.{_≡_, refl, sym, _∙_, ap}
-use mathlib.Core.Bool.{Bool, true, _&&_, and-assoc}
+use mathlib.Core.Bool.{Bool, true, false, cond, _&&_, false≢true, and-assoc, and-false}
+use mathlib.Core.Bool.{and-true as and-one}
 use mathlib.Core.List.{List, _++_, append-nil}
 use mathlib.Core.Logic.{_⊎_, inl, inr, ⊎-elim}
-use Prim.Native.Nat.{ℕ, suc, _*_, _-_, _^_, _<_, _≤_}
+use Prim.Native.Nat.{ℕ, suc, _+_, _*_, _-_, _^_, _<_, _≤_}
 use native.Mathlib.Omega.{arith}
-use lib.Dec.{leb, ltb, lit<}
+use lib.Dec.{leb, ltb, eqb, lit<}
 use lib.IntN.{pos}
 use lib.ListN.{length, drop}
 use lib.Seq.{take-append-seam, drop-append-seam}
-use borrow.Author.Tests.{eqb-true, leb-true, ltb-true, ltb-false}
-use Rattle.integers.proofs.Ranges.{and-true}
+use borrow.Author.Tests.{leb-true, ltb-true, ltb-false}
+use Rattle.integers.proofs.Ranges.{and-true, true-and}
 use Rattle.number.specs.Form.{bytesOf, bytesFrom, bytesOfAll}
 use Rattle.number.specs.Layout.{Outcome, got, failed, readFrom}
 use Rattle.number.specs.Mapping.{mapped}
 use Rattle.number.proofs.Lists.{either}
 use Rattle.number.proofs.Chain.{Ahead}
-use Rattle.number.proofs.Layouts.{Choice, chosen, stands, allows, joined, allows-joined, AtMost, longer, nothing, choose, choose-chosen, chosen-allowed, no-longer, read-back, read-more, taken, Known, known}
+use Rattle.number.proofs.Layouts.{Choice, chosen, stands, allows, joined, allows-joined, Sized, sized, sized-end, choose, choose-chosen, chosen-allowed, most, no-longer, read-back, read-more, taken, Known, known, layout-exactly-when}
+use Rattle.number.proofs.Sizes.{bytes-last}
 use Rattle.number.proofs.Mapping.{unmapped-mapped, mapped-unmapped}
 use Rattle.clock.specs.Units.{micros, offsetUnits, phaseUnits, frequencyUnits, offsetUnitsPerMicro, phaseUnitsPerMicro}
-use Rattle.clock.specs.State.{inRange, freshClock, lastSecond, lastMicro, greatestOffset, greatestFrequency, greatestConstant, greatestError, statusBad}
+use Rattle.clock.specs.State.{inRange, freshClock, secondRange, flagRange, intervalRange, zeroUnlessFlag, lastSecond, longestInterval, lastMicro, greatestOffset, greatestFrequency, greatestConstant, greatestError, statusBad}
 use Rattle.clock.specs.declared.state.Clock.{Clock}
-use Rattle.record.specs.Layout.{version, numbersOf, recordOf, recordLayout}
-use Rattle.record.specs.Reading.{restored, readingOf, accepted}
+use Rattle.record.specs.Layout.{newest, knownVersion, reftimeRange, countRange, lastRange, keptUpdate, numbersIn, recordIn, recordOf, recordLayout}
+use Rattle.record.specs.Reading.{restored, readingOf, accepted, refusedWith}
 use Rattle.record.specs.Saving.{savingOf, bufferAfter}
 use Rattle.record.specs.Inner.{mappedPhase, mappedOffset, mappedFrequency, mappedAdjustment}
-use Rattle.record.specs.Properties.{freshRecord, greatestLength, LongestIs, ReadsBack, NothingFollows, Bytes, Whole, OneForm, Refused, RefusedIsFresh, SavedIsKept}
+use Rattle.record.specs.Properties.{Says, ReadsBack, NothingFollows, WritesNewest, Bytes, versionOf, Whole, OneForm, OneNewest, Refused, RefusedIsFresh, ExactlyWhen, LongestIs, Longest, freshRecord, freshRecord1, FreshRecords, Version1, SavedIsKept}
+use Rattle.record.specs.declared.groups.Update.{Update}
 use Rattle.record.specs.declared.restore.Restored.{Restored}
 use Rattle.record.specs.declared.save.Saved.{Saved}
 use Rattle.record.proofs.Ranges.{phase-test, offset-test, frequency-test, adjustment-test}
@@ -38,68 +41,146 @@ use Rattle.record.proofs.SavingLaws.{out-of-range, too-short, stored}
 below : (k most : ℕ) → most < 128 ^ suc k → (n : ℕ) → leb n most ≡ true → n < 128 ^ suc k
 below k most l n e = omega (arith, leb-true n most e)
 
-bounded : AtMost recordLayout greatestLength
+version-small : (n : ℕ) → knownVersion n ≡ true → n < 128
+version-small n e = omega (arith, leb-true n newest (and-true (leb 1 n) (leb n newest) e .1))
+
+-- what follows the flag of the earlier update, in five bytes or in two: behind the first there are so many
+abbrev lastMore : ℕ → ℕ
+lastMore version = cond (eqb version 1) 4 1
+
+last-five : (version : ℕ) → lastMore version < 5
+last-five version = ⊎-elim (λ (t : eqb version 1 ≡ true). simp t (lit< tt)) (λ (t : eqb version 1 ≡ false). simp t (lit< tt)) (either (eqb version 1))
+
+last-small : (version flag n : ℕ) → lastRange version flag n ≡ true → n < 128 ^ suc (lastMore version)
+last-small version flag n e =
+    ⊎-elim
+    (λ (t : eqb version 1 ≡ true).
+    let w : reftimeRange flag n ≡ true = simp t at e in
+    simp t (below 4 lastSecond (lit< tt) n (and-true (secondRange n) (zeroUnlessFlag flag n) w .0)))
+    (λ (t : eqb version 1 ≡ false).
+    let w : countRange flag n ≡ true = simp t at e in
+    simp t (below 1 longestInterval (lit< tt) n (and-true (intervalRange n) (zeroUnlessFlag flag n) w .0)))
+    (either (eqb version 1))
+
+unfoldable sizes : Sized recordLayout
 unfolding recordLayout
-bounded =
-    longer 0 _ _ _ (lit< tt) (λ n e. omega (arith, eqb-true n version e)) (λ v.
-    longer 4 _ _ _ (lit< tt) (below 4 _ (lit< tt)) (λ seconds.
-    longer 2 _ _ _ (lit< tt) (below 2 _ (lit< tt)) (λ us.
-    longer 4 _ _ _ (lit< tt) (λ n e. below 4 mappedPhase (lit< tt) n (phase-test n ∙ e)) (λ phase.
-    longer 4 _ _ _ (lit< tt) (λ n e. below 4 mappedOffset (lit< tt) n (offset-test n ∙ e)) (λ offset.
-    longer 4 _ _ _ (lit< tt) (λ n e. below 4 mappedFrequency (lit< tt) n (frequency-test n ∙ e)) (λ frequency.
-    longer 4 _ _ _ (lit< tt) (λ n e. below 4 mappedAdjustment (lit< tt) n (and-true _ _ (adjustment-test n ∙ e) .0)) (λ adjustment.
-    longer 0 _ _ _ (lit< tt) (below 0 _ (lit< tt)) (λ constant.
-    longer 0 _ _ _ (lit< tt) (below 0 _ (lit< tt)) (λ flag.
-    longer 4 _ _ _ (lit< tt) (λ n e. below 4 lastSecond (lit< tt) n (and-true _ _ e .0)) (λ reftime.
-    longer 3 _ _ _ (lit< tt) (below 3 _ (lit< tt)) (λ maxerror.
-    longer 3 _ _ _ (lit< tt) (below 3 _ (lit< tt)) (λ esterror.
-    longer 0 _ _ _ (lit< tt) (below 0 _ (lit< tt)) (λ status.
-    nothing _)))))))))))))
+sizes =
+    sized 0 _ _ _ (lit< tt) version-small (λ version.
+    sized 4 _ _ _ (lit< tt) (below 4 _ (lit< tt)) (λ seconds.
+    sized 2 _ _ _ (lit< tt) (below 2 _ (lit< tt)) (λ us.
+    sized 4 _ _ _ (lit< tt) (λ n e. below 4 mappedPhase (lit< tt) n (phase-test n ∙ e)) (λ phase.
+    sized 4 _ _ _ (lit< tt) (λ n e. below 4 mappedOffset (lit< tt) n (offset-test n ∙ e)) (λ offset.
+    sized 4 _ _ _ (lit< tt) (λ n e. below 4 mappedFrequency (lit< tt) n (frequency-test n ∙ e)) (λ frequency.
+    sized 4 _ _ _ (lit< tt) (λ n e. below 4 mappedAdjustment (lit< tt) n (and-true _ _ (adjustment-test n ∙ e) .0)) (λ adjustment.
+    sized 0 _ _ _ (lit< tt) (below 0 _ (lit< tt)) (λ constant.
+    sized 0 _ _ _ (lit< tt) (below 0 _ (lit< tt)) (λ flag.
+    sized (lastMore version) _ _ _ (last-five version) (last-small version flag) (λ last.
+    sized 3 _ _ _ (lit< tt) (below 3 _ (lit< tt)) (λ maxerror.
+    sized 3 _ _ _ (lit< tt) (below 3 _ (lit< tt)) (λ esterror.
+    sized 0 _ _ _ (lit< tt) (below 0 _ (lit< tt)) (λ status.
+    sized-end _)))))))))))))
 
--- ---- a clock in range is one whose numbers the layout allows
+-- ---- a record that says a clock in range is one whose numbers the layout allows
 
-update-apart : (x f s z : Bool) → x && (f && s && z) ≡ x && f && (s && z)
-update-apart x f s z = simp and-assoc
+-- the tests of a clock's earlier update
+abbrev updateRange : ℕ → ℕ → Bool
+updateRange flag last = flagRange flag && intervalRange last && zeroUnlessFlag flag last
 
-allowed : (c : Clock) → allows recordLayout (numbersOf c) ≡ inRange c
-unfolding joined recordLayout numbersOf inRange
-allowed c = allows-joined true recordLayout (numbersOf c) ∙ simp unmapped-mapped (sym (rw update-apart))
+update-apart : (flag last : ℕ) → updateRange flag last ≡ flagRange flag && countRange flag last
+update-apart flag last = and-assoc (flagRange flag) (intervalRange last) (zeroUnlessFlag flag last)
 
--- the numbers of a clock in range are a choice for the layout, which stands for the clock
-module _ (c : Clock) (e : inRange c ≡ true) where
+-- what is kept of flag and last passes them
+kept-sound : (version flag last : ℕ) → flagRange flag ≡ true → lastRange version flag last ≡ true
+    → updateRange (keptUpdate version flag last .updated) (keptUpdate version flag last .interval) ≡ true
+kept-sound version flag last flagged ranged =
+    ⊎-elim (λ (t : eqb version 1 ≡ true). simp t)
+    (λ (t : eqb version 1 ≡ false).
+    let w : countRange flag last ≡ true = simp t at ranged in
+    simp t (update-apart flag last ∙ true-and flagged w))
+    (either (eqb version 1))
+
+update-sound : (c : Clock) → inRange c ≡ true → updateRange (c .updated) (c .interval) ≡ true
+unfolding inRange
+update-sound c e =
+    ⊎-elim (λ t. t)
+    (λ (t : updateRange (c .updated) (c .interval) ≡ false).
+    let no : inRange c ≡ false = simp (t, and-false) in
+    absurd (false≢true (sym no ∙ e)))
+    (either (updateRange (c .updated) (c .interval)))
+
+allowed : (version : ℕ) (c : Clock) (flag last : ℕ) → knownVersion version ≡ true → flagRange flag ≡ true → lastRange version flag last ≡ true → updateRange (c .updated) (c .interval) ≡ true
+    → allows recordLayout (numbersIn version c flag last) ≡ inRange c
+unfolding joined recordLayout numbersIn inRange
+allowed version c flag last known flagged ranged update =
+    allows-joined true recordLayout (numbersIn version c flag last) ∙ simp (unmapped-mapped, known, flagged, ranged, update, and-one)
+
+-- what a record says, as a choice of numbers, which stands for the clock
+module _ {version : ℕ} {c : Clock} {flag last : ℕ} (w : Says version c flag last) where
+  says-allowed : allows recordLayout (numbersIn version c flag last) ≡ true
+  says-allowed = allowed version c flag last (w .known) (w .flagged) (w .ranged) (update-sound c (w .sound)) ∙ w .sound
+
   unfoldable choice : Choice recordLayout
-  choice = choose recordLayout greatestLength bounded (numbersOf c) (allowed c ∙ e)
+  choice = choose recordLayout sizes (numbersIn version c flag last) says-allowed
 
-  choice-numbers : chosen recordLayout choice ≡ numbersOf c
+  choice-numbers : chosen recordLayout choice ≡ numbersIn version c flag last
   unfolding choice
-  choice-numbers = choose-chosen recordLayout greatestLength bounded (numbersOf c) (allowed c ∙ e)
+  choice-numbers = choose-chosen recordLayout sizes (numbersIn version c flag last) says-allowed
 
   choice-clock : stands recordLayout choice ≡ c
-  unfolding choice choose stands Choice recordLayout numbersOf
-  choice-clock = simp unmapped-mapped
+  unfolding choice choose stands Choice recordLayout numbersIn
+  choice-clock = rw (sym (w .update)) (simp unmapped-mapped)
 
   -- the record, and what follows it
-  ahead : {s rest : List ℕ} → s ≡ recordOf c ++ rest → Ahead s 0 (chosen recordLayout choice) rest
-  unfolding recordOf
+  ahead : {s rest : List ℕ} → s ≡ recordIn version c flag last ++ rest → Ahead s 0 (chosen recordLayout choice) rest
+  unfolding recordIn
   ahead {rest = rest} h = record { is = h ∙ ap (λ (ns : List ℕ). bytesOfAll ns ++ rest) (sym choice-numbers) }
 
--- and every choice is the numbers of a clock
-numbers-chosen : (k : Choice recordLayout) → chosen recordLayout k ≡ numbersOf (stands recordLayout k)
-unfolding chosen stands Choice recordLayout numbersOf
-numbers-chosen k = rw (eqb-true (k .n) version (k .fits)) (simp mapped-unmapped)
+-- and every choice is the numbers of a record that says the clock
+module _ (k : Choice recordLayout) where
+  abbrev version-of : ℕ
+  unfolding Choice recordLayout
+  version-of = k .n
 
-chosen-sound : (k : Choice recordLayout) → inRange (stands recordLayout k) ≡ true
-chosen-sound k = sym (allowed (stands recordLayout k)) ∙ ap (allows recordLayout) (sym (numbers-chosen k)) ∙ chosen-allowed recordLayout k
+  abbrev flag-of : ℕ
+  unfolding Choice recordLayout
+  flag-of = k .more .more .more .more .more .more .more .more .n
+
+  abbrev last-of : ℕ
+  unfolding Choice recordLayout
+  last-of = k .more .more .more .more .more .more .more .more .more .n
+
+  numbers-chosen : chosen recordLayout k ≡ numbersIn version-of (stands recordLayout k) flag-of last-of
+  unfolding chosen stands Choice recordLayout numbersIn
+  numbers-chosen = simp mapped-unmapped
+
+  said : Says version-of (stands recordLayout k) flag-of last-of
+  unfolding stands Choice recordLayout
+  said =
+      let known = k .fits in
+      let flag = k .more .more .more .more .more .more .more .more in
+      let update = kept-sound version-of flag-of last-of (flag .fits) (flag .more .fits) in
+      record {
+        known = known;
+        sound = sym (allowed version-of (stands recordLayout k) flag-of last-of known (flag .fits) (flag .more .fits) update) ∙ ap (allows recordLayout) (sym numbers-chosen) ∙ chosen-allowed recordLayout k;
+        flagged = flag .fits;
+        ranged = flag .more .fits;
+        update = refl;
+      }
 
 -- ---- what was written is read
 
 pub reads-back : ReadsBack
 unfolding readingOf
-reads-back c e = ap restored (read-back recordLayout (choice c e) (ahead c e (sym (append-nil _)))) ∙ ap accepted (choice-clock c e)
+reads-back version c flag last w = ap restored (read-back recordLayout (choice w) (ahead w (sym (append-nil _)))) ∙ ap accepted (choice-clock w)
 
 pub nothing-follows : NothingFollows
 unfolding readingOf
-nothing-follows c rest e h = ap restored (read-more recordLayout (choice c e) h (ahead c e refl))
+nothing-follows version c flag last rest w h = ap restored (read-more recordLayout (choice w) h (ahead w refl))
+
+pub writes-newest : WritesNewest
+writes-newest c e =
+    let w = and-true (flagRange (c .updated)) (countRange (c .updated) (c .interval)) (sym (update-apart (c .updated) (c .interval)) ∙ update-sound c e) in
+    record { known = refl; sound = e; flagged = w .0; ranged = w .1; update = refl }
 
 -- ---- what is read was written, and what a refusal is
 
@@ -111,21 +192,62 @@ module _ (s : List ℕ) {x : Outcome Clock} (e : readFrom recordLayout s 0 ≡ x
   refusal-known : Known x
   refusal-known = rw e at (known s recordLayout 0)
 
-whole-found : (s : List ℕ) → Bytes s → (x : Outcome Clock) → readFrom recordLayout s 0 ≡ x → restored x .refusal ≡ 0 → Whole s
-unfolding recordOf
+-- a record begins with its version
+version-first : (version : ℕ) (c : Clock) (flag last : ℕ) → knownVersion version ≡ true → versionOf (recordIn version c flag last) ≡ version
+unfolding recordIn numbersIn bytesOfAll
+version-first version c flag last e = rw (bytes-last version (version-small version e))
+
+whole-chosen : (s : List ℕ) (k : Choice recordLayout) → s ≡ bytesOfAll (chosen recordLayout k) → Whole s (stands recordLayout k)
+unfolding recordIn
+whole-chosen s k e =
+    let c = stands recordLayout k in
+    let written : s ≡ recordIn (version-of k) c (flag-of k) (last-of k) = e ∙ ap bytesOfAll (numbers-chosen k) in
+    let first : versionOf s ≡ version-of k = ap versionOf written ∙ version-first (version-of k) c (flag-of k) (last-of k) (said k .known) in
+    record { flag = flag-of k; last = last-of k; says = rw first (said k); written = rw first written }
+
+whole-found : (s : List ℕ) → Bytes s → (x : Outcome Clock) → readFrom recordLayout s 0 ≡ x → restored x .refusal ≡ 0 → Whole s (restored x .clock)
 whole-found s b (got c) e z =
     let t = taken s b c recordLayout 0 e in
-    let a : readingOf s .clock ≡ c = ap (λ (y : Restored). y .clock) (answer s e) in
-    record {
-      written =
-          t .ahead .is ∙ append-nil _ ∙ ap bytesOfAll (numbers-chosen (t .choice)) ∙ ap recordOf (t .is ∙ sym a);
-      sound = ap inRange (a ∙ sym (t .is)) ∙ chosen-sound (t .choice);
-    }
+    rw (t .is) at (whole-chosen s (t .choice) (t .ahead .is ∙ append-nil _))
 whole-found s b (failed r) e z = absurd (omega (arith, refusal-known s e .0))
 
 pub one-form : OneForm
 unfolding readingOf
 one-form s b z = whole-found s b (readFrom recordLayout s 0) refl z
+
+-- a record of the newest version is the one that is written of its clock
+newest-written : {c : Clock} {flag last : ℕ} → Says newest c flag last → recordIn newest c flag last ≡ recordOf c
+newest-written {c} w = ap (λ (u : Update). recordIn newest c (u .updated) (u .interval)) (sym (w .update))
+
+pub one-newest : OneNewest
+one-newest s b z v =
+    let w = one-form s b z in
+    rw v at (w .written) ∙ newest-written (rw v at (w .says))
+
+pub version-1 : Version1
+version-1 =
+    record {
+      only =
+          λ s b z v.
+          let w = one-form s b z in
+          let says = rw v at (w .says) in
+          let update = says .update in
+          record {
+            flag = w .flag;
+            second = w .last;
+            flagged = says .flagged;
+            ranged = says .ranged;
+            sound = says .sound;
+            none = (ap (λ (u : Update). u .updated) update, ap (λ (u : Update). u .interval) update);
+            written = rw v at (w .written);
+          };
+      always =
+          λ s c o.
+          ap readingOf (o .written)
+          ∙ reads-back 1 c (o .flag) (o .second)
+          (record { known = refl; sound = o .sound; flagged = o .flagged; ranged = o .ranged; update = rw (o .none .0, o .none .1) });
+      after = λ s c o. rw (o .none .0, o .none .1);
+    }
 
 fair-found : (s : List ℕ) (x : Outcome Clock) → readFrom recordLayout s 0 ≡ x → (restored x .refusal ≡ 0) ⊎ Refused (restored x)
 fair-found s (got c) e = inl refl
@@ -135,11 +257,21 @@ pub refused-is-fresh : RefusedIsFresh
 unfolding readingOf
 refused-is-fresh s = fair-found s (readFrom recordLayout s 0) refl
 
+refused-so : (s : List ℕ) (r : ℕ) → 0 < r → (x : Outcome Clock) → readFrom recordLayout s 0 ≡ x → restored x ≡ refusedWith r → readFrom recordLayout s 0 ≡ failed r
+refused-so s r some (got c) e f = let z : 0 ≡ r = ap (λ (y : Restored). y .refusal) f in absurd (omega arith)
+refused-so s r some (failed q) e f = e ∙ ap failed (ap (λ (y : Restored). y .refusal) f)
+
+pub exactly-when : ExactlyWhen
+unfolding readingOf
+exactly-when s r some =
+    let w = layout-exactly-when Clock recordLayout s 0 r in
+    record { only = λ e. w .only (refused-so s r some (readFrom recordLayout s 0) refl e); always = λ h. ap restored (w .always h) }
+
 -- ---- the longest record, and the fresh clock's
 
--- each field at its greatest
-abbrev greatest : Clock
-greatest =
+-- each field at its greatest, but for the earlier update
+abbrev greatest : Update → Clock
+greatest u =
     record {
       seconds = lastSecond;
       micros = micros lastMicro;
@@ -148,32 +280,53 @@ greatest =
       frequency = frequencyUnits (pos greatestFrequency);
       adjustment = phaseUnits (pos 303037440);
       constant = greatestConstant;
-      updated = 1;
-      reftime = lastSecond;
+      updated = u .updated;
+      interval = u .interval;
       maxerror = micros greatestError;
       esterror = micros greatestError;
       status = statusBad;
     }
 
-greatest-sound : inRange greatest ≡ true
+most-bytes : {version : ℕ} {c : Clock} {flag last : ℕ} (w : Says version c flag last) → most recordLayout sizes (choice w) ≡ 41 + lastMore version
+unfolding most sizes sized sized-end Sized choice choose Choice recordLayout numbersIn
+most-bytes w = omega arith
+
+no-record-longer : {version : ℕ} {c : Clock} {flag last : ℕ} → Says version c flag last → length (recordIn version c flag last) ≤ 41 + lastMore version
+unfolding recordIn
+no-record-longer w = rw (most-bytes w, choice-numbers w) at (no-longer recordLayout sizes (choice w))
+
+longest-of : (version last : ℕ) → Says version (greatest (keptUpdate version 1 last)) 1 last
+    → length (recordIn version (greatest (keptUpdate version 1 last)) 1 last) ≡ 41 + lastMore version → LongestIs version (41 + lastMore version)
+longest-of version last w e = record { none = λ c flag last w. no-record-longer w; one = _; flag = 1; last = last; says = w; long = e }
+
+pub longest : Longest
+unfolding inRange recordIn numbersIn bytesOfAll bytesOf bytesFrom mapped
+longest =
+    record {
+      version1 = longest-of 1 lastSecond (record { known = refl; sound = refl; flagged = refl; ranged = refl; update = refl }) refl;
+      version2 = longest-of 2 longestInterval (record { known = refl; sound = refl; flagged = refl; ranged = refl; update = refl }) refl;
+    }
+
+fresh-written : recordOf freshClock ≡ freshRecord
+unfolding recordIn numbersIn bytesOfAll bytesOf bytesFrom mapped
+fresh-written = refl
+
+fresh-written-1 : freshRecord1 ≡ recordIn 1 freshClock 0 0
+unfolding recordIn numbersIn bytesOfAll bytesOf bytesFrom mapped
+fresh-written-1 = refl
+
+fresh-sound : inRange freshClock ≡ true
 unfolding inRange
-greatest-sound = refl
+fresh-sound = refl
 
-greatest-long : length (recordOf greatest) ≡ greatestLength
-unfolding recordOf numbersOf bytesOfAll bytesOf bytesFrom mapped
-greatest-long = refl
-
-no-record-longer : (c : Clock) → inRange c ≡ true → length (recordOf c) ≤ greatestLength
-unfolding recordOf
-no-record-longer c e = rw (choice-numbers c e) at (no-longer recordLayout greatestLength bounded (choice c e))
-
-pub longest : LongestIs greatestLength
-longest = record { none = no-record-longer; one = greatest; sound = greatest-sound; long = greatest-long }
-
--- "The fresh clock, whole"
-pub fresh-record : recordOf freshClock ≡ freshRecord
-unfolding recordOf numbersOf bytesOfAll bytesOf bytesFrom mapped
-fresh-record = refl
+pub fresh-records : FreshRecords
+fresh-records =
+    record {
+      written = fresh-written;
+      read =
+          version-1 .always freshRecord1 freshClock
+          (record { flag = 0; second = 0; flagged = refl; ranged = refl; sound = fresh-sound; none = (refl, refl); written = fresh-written-1 });
+    }
 
 -- ---- written and read back through a buffer
 
@@ -189,7 +342,7 @@ saved-is-kept c buf e =
     let w = stored c buf t (ltb-false _ _ l) refl refl in
     let n : savingOf c buf .length ≡ length (recordOf c) = sym (ap (λ (y : Saved). y .length) (w .answer)) in
     let b : bufferAfter c buf ≡ recordOf c ++ drop (length (recordOf c)) buf = sym (w .buffer) in
-    record { read = rw (n, b, take-append-seam) (reads-back c t); later = rw (n, b, drop-append-seam) })
+    record { read = rw (n, b, take-append-seam) (reads-back newest c _ _ (writes-newest c t)); later = rw (n, b, drop-append-seam) })
     (either (ltb (length buf) (length (recordOf c)))))
     (λ t. refuses {r = 1} (omega arith) (out-of-range c buf t .answer) e)
     (either (inRange c))

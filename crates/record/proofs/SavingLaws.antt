@@ -13,13 +13,13 @@ use Rattle.number.proofs.Sizes.{sizes-most}
 use Rattle.clock.specs.State.{inRange}
 use Rattle.clock.specs.declared.state.Clock.{Clock}
 use Rattle.number.specs.declared.encode.Written.{Written}
-use Rattle.record.specs.Layout.{numbersOf, recordOf}
+use Rattle.record.specs.Layout.{numbersOf, recordIn, recordOf}
 use Rattle.record.specs.Saving.{savingRefusal, savingOf, bufferAfter, Saves}
 
 -- ---- the record before it is copied
 
 most : (c : Clock) → length (recordOf c) ≤ 5 * length (numbersOf c)
-unfolding recordOf
+unfolding recordIn
 most c = sizes-most (numbersOf c)
 
 -- the record of c stands at the beginning of the text, and was found to be as long as it is

@@ -9,11 +9,12 @@ use Rattle.number.specs.Mapping.{unmapped}
 use Rattle.number.specs.Reading.{Found, number, refused}
 use Rattle.clock.specs.Units.{offsetUnitsPerMicro, phaseUnitsPerMicro}
 use Rattle.clock.specs.Device.{recorder256}
-use Rattle.clock.specs.State.{lastSecond, greatestOffset, greatestFrequency}
+use Rattle.clock.specs.State.{lastSecond, longestInterval, greatestOffset, greatestFrequency}
 use Rattle.clock.specs.declared.state.Clock.{Clock}
 use Rattle.record.specs.Layout.{timeFields, loopFields, rateFields, updateFields, errorFields, clockOf}
 use Rattle.record.specs.declared.field.Field.{Field}
 use Rattle.record.specs.declared.field.Field.the-variants as F
+use Rattle.record.specs.declared.groups.Head.{Head}
 use Rattle.record.specs.declared.groups.Time.{Time}
 use Rattle.record.specs.declared.groups.Loop.{Loop}
 use Rattle.record.specs.declared.groups.Rate.{Rate}
@@ -49,23 +50,23 @@ mappedFrequency = 2 * greatestFrequency
 abbrev pub mappedAdjustment : ℕ
 mappedAdjustment = 2 * natAbs (recorder256 .most .0)
 
--- the largest second of an earlier update
-abbrev pub lastReftime : ℕ → ℕ
-lastReftime flag = cond (eqb flag 1) lastSecond 0
+-- the largest number behind the flag of an earlier update
+abbrev pub lastMost : ℕ → ℕ → ℕ
+lastMost version flag = cond (eqb flag 1) (cond (eqb version 1) lastSecond longestInterval) 0
 
 -- ---- a group of fields and those behind it, after the groups before it
 
-unfoldable pub fromErrors : Time → Loop → Rate → Update → Layout Clock
-fromErrors t l a u = errorFields (λ e. whole (clockOf t l a u e))
+unfoldable pub fromErrors : Head → Time → Loop → Rate → Update → Layout Clock
+fromErrors h t l a u = errorFields (λ e. whole (clockOf t l a u e))
 
-unfoldable pub fromUpdate : Time → Loop → Rate → Layout Clock
-fromUpdate t l a = updateFields (λ u. fromErrors t l a u)
+unfoldable pub fromUpdate : Head → Time → Loop → Rate → Layout Clock
+fromUpdate h t l a = updateFields (h .version) (λ u. fromErrors h t l a u)
 
-unfoldable pub fromRate : Time → Loop → Layout Clock
-fromRate t l = rateFields (λ a. fromUpdate t l a)
+unfoldable pub fromRate : Head → Time → Loop → Layout Clock
+fromRate h t l = rateFields (λ a. fromUpdate h t l a)
 
-unfoldable pub fromLoop : Time → Layout Clock
-fromLoop t = loopFields (λ l. fromRate t l)
+unfoldable pub fromLoop : Head → Time → Layout Clock
+fromLoop h t = loopFields (λ l. fromRate h t l)
 
-unfoldable pub fromTime : Layout Clock
-fromTime = timeFields (λ t. fromLoop t)
+unfoldable pub fromTime : Head → Layout Clock
+fromTime h = timeFields (λ t. fromLoop h t)

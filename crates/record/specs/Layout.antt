@@ -1,15 +1,16 @@
 -- What a saved record holds: the fields in their order, the numbers and the bytes of a clock. Document 01, "Saved record": "Thirteen
 -- numbers: version 1, then the table's fields in its order (earlier update is two)." "Phase, offset left, frequency and adjustment are
--- first mapped". A record of another version changes this file alone.
-use mathlib.Core.Bool.{Bool, _&&_}
+-- first mapped". Document 02: "Record version 2 carries the count in the place of the second, 0..1,024 and 0 if the flag is 0; a version 1
+-- record is still read, as having no earlier update. Writers use the newest version". All versions are one layout.
+use mathlib.Core.Bool.{Bool, cond, _&&_}
 use mathlib.Core.List.{List, [], _∷_}
 use Prim.Native.Nat.{ℕ}
-use lib.Dec.{eqb}
+use lib.Dec.{leb, eqb}
 use Rattle.number.specs.Form.{bytesOfAll}
 use Rattle.number.specs.Layout.{Layout, field, whole, mappedRange}
 use Rattle.number.specs.Mapping.{mapped, unmapped}
 use Rattle.clock.specs.Units.{micros, offsetUnits, phaseUnits, frequencyUnits}
-use Rattle.clock.specs.State.{secondRange, microsRange, phaseRange, offsetRange, frequencyRange, adjustmentRange, constantRange, flagRange, zeroUnlessFlag, errorRange, statusRange}
+use Rattle.clock.specs.State.{secondRange, microsRange, phaseRange, offsetRange, frequencyRange, adjustmentRange, constantRange, flagRange, intervalRange, zeroUnlessFlag, errorRange, statusRange}
 use Rattle.clock.specs.declared.state.Clock.{Clock}
 use Rattle.record.specs.declared.groups.Time.{Time}
 use Rattle.record.specs.declared.groups.Loop.{Loop}
@@ -18,17 +19,18 @@ use Rattle.record.specs.declared.groups.Update.{Update}
 use Rattle.record.specs.declared.groups.Errors.{Errors}
 
 -- the version that is written
-abbrev pub version : ℕ
-version = 1
+abbrev pub newest : ℕ
+newest = 2
 
 -- the versions that are read: any other is unknown
 abbrev pub knownVersion : ℕ → Bool
-knownVersion n = eqb n version
+knownVersion n = leb 1 n && leb n newest
 
--- ---- the numbers of a clock
+-- ---- the numbers of a record
 
-unfoldable pub numbersOf : Clock → List ℕ
-numbersOf c =
+-- of a version: those of the clock, but at the two places of the earlier update a flag, and what follows it
+unfoldable pub numbersIn : ℕ → Clock → ℕ → ℕ → List ℕ
+numbersIn version c flag last =
     version
     ∷ c .seconds
     ∷ c .micros .0
@@ -37,16 +39,23 @@ numbersOf c =
     ∷ mapped (c .frequency .0)
     ∷ mapped (c .adjustment .0)
     ∷ c .constant
-    ∷ c .updated
-    ∷ c .reftime
+    ∷ flag
+    ∷ last
     ∷ c .maxerror .0
     ∷ c .esterror .0
     ∷ c .status
     ∷ []
 
--- the record of a clock: the bytes of its numbers, one after the other
-unfoldable pub recordOf : Clock → List ℕ
-recordOf c = bytesOfAll (numbersOf c)
+-- its bytes: those of the numbers, one after the other
+unfoldable pub recordIn : ℕ → Clock → ℕ → ℕ → List ℕ
+recordIn version c flag last = bytesOfAll (numbersIn version c flag last)
+
+-- the record of a clock, as it is written
+abbrev pub numbersOf : Clock → List ℕ
+numbersOf c = numbersIn newest c (c .updated) (c .interval)
+
+abbrev pub recordOf : Clock → List ℕ
+recordOf c = recordIn newest c (c .updated) (c .interval)
 
 -- ---- the fields, by groups of two or three: what has been read of each, and what follows it
 
@@ -72,16 +81,28 @@ rateFields rest =
     field constantRange (λ constant.
     rest (record { adjustment = adjustment; constant = constant })))
 
--- the second of the earlier update: "0 if flag 0"
+-- version 1: the second of the earlier update, "0 if flag 0"
 abbrev pub reftimeRange : ℕ → ℕ → Bool
 reftimeRange flag n = secondRange n && zeroUnlessFlag flag n
 
--- earlier update: flag, its second
-abbrev pub updateFields : (Update → Layout Clock) → Layout Clock
-updateFields rest =
+-- version 2: "the count in the place of the second, 0..1,024 and 0 if the flag is 0"
+abbrev pub countRange : ℕ → ℕ → Bool
+countRange flag n = intervalRange n && zeroUnlessFlag flag n
+
+-- what follows the flag
+abbrev pub lastRange : ℕ → ℕ → ℕ → Bool
+lastRange version flag n = cond (eqb version 1) (reftimeRange flag n) (countRange flag n)
+
+-- "a version 1 record is still read, as having no earlier update"
+abbrev pub keptUpdate : ℕ → ℕ → ℕ → Update
+keptUpdate version flag last = cond (eqb version 1) (record { updated = 0; interval = 0 }) (record { updated = flag; interval = last })
+
+-- earlier update: flag, and its second (version 1) or the rollovers since it
+abbrev pub updateFields : ℕ → (Update → Layout Clock) → Layout Clock
+updateFields version rest =
     field flagRange (λ flag.
-    field (reftimeRange flag) (λ reftime.
-    rest (record { updated = flag; reftime = reftime })))
+    field (lastRange version flag) (λ last.
+    rest (keptUpdate version flag last)))
 
 -- maximum error, estimated error, status
 abbrev pub errorFields : (Errors → Layout Clock) → Layout Clock
@@ -103,19 +124,19 @@ clockOf t l a u e =
       adjustment = phaseUnits (unmapped (a .adjustment));
       constant = a .constant;
       updated = u .updated;
-      reftime = u .reftime;
+      interval = u .interval;
       maxerror = micros (e .maxerror);
       esterror = micros (e .esterror);
       status = e .status;
     }
 
--- "version 1, then the table's fields in its order"
+-- the version, "then the table's fields in its order"
 unfoldable pub recordLayout : Layout Clock
 recordLayout =
     field knownVersion (λ version.
     timeFields (λ t.
     loopFields (λ l.
     rateFields (λ a.
-    updateFields (λ u.
+    updateFields version (λ u.
     errorFields (λ e.
     whole (clockOf t l a u e)))))))

@@ -7,6 +7,9 @@ ghost use Rattle.record.specs.Layout.{knownVersion};
 use crate::layout::VERSION;
 use number::Decoded;
 
+// The last version that is read, as wide as the numbers that are.
+const LAST_VERSION: u64 = VERSION as u64;
+
 // What reading a field gives: its number, which is in its range, and the place after it; or the refusal, 10, 11 or 12.
 // A signed field's number is the one that it is mapped to.
 pub(crate) enum Field {
@@ -21,8 +24,11 @@ pub(crate) fn version(bytes: &[u8]) -> Field
     match number::read(bytes, 0) {
         Decoded::Refused(n) => Field::Refused(n),
         Decoded::Value { value, next } => {
-            if value == VERSION as u64 {
-                return Field::Value(VERSION, next);
+            if value == 0 {
+                return Field::Refused(12);
+            }
+            if value <= LAST_VERSION {
+                return Field::Value(value as u32, next);
             }
             Field::Refused(12)
         }

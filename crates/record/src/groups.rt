@@ -1,13 +1,18 @@
 // What has been read of a record, by groups of fields, as the record holds them: signed fields are the numbers that they are mapped to.
 // And the clock that all of them stand for.
 ghost use mathlib.Core.Path.{_≡_};
-ghost use Rattle.record.specs.Layout.{clockOf};
+ghost use Rattle.record.specs.Layout.{keptUpdate, clockOf};
 use crate::field::unmapped_of;
 use clock::Clock;
 use clock::Frequency;
 use clock::Micros;
 use clock::OffsetUnits;
 use clock::PhaseUnits;
+
+// What stands before the table's fields.
+pub(crate) struct Head {
+    pub version: u32,
+}
 
 pub(crate) struct Time {
     pub seconds: u32,
@@ -27,13 +32,29 @@ pub(crate) struct Rate {
 
 pub(crate) struct Update {
     pub updated: u8,
-    pub reftime: u32,
+    pub interval: u32,
 }
 
 pub(crate) struct Errors {
     pub maxerror: u32,
     pub esterror: u32,
     pub status: u8,
+}
+
+// What is kept of an earlier update: nothing in version 1, where a second followed the flag.
+pub(crate) fn kept_update(version: u32, flag: u8, last: u32) -> Update
+    ensures { λ r. ⌜ r ≡ keptUpdate version flag last ⌝ }
+{
+    match version {
+        1 => Update {
+            updated: 0,
+            interval: 0,
+        },
+        _ => Update {
+            updated: flag,
+            interval: last,
+        },
+    }
 }
 
 pub(crate) fn clock_of(t: Time, l: Loop, a: Rate, u: Update, e: Errors) -> Clock
@@ -48,7 +69,7 @@ pub(crate) fn clock_of(t: Time, l: Loop, a: Rate, u: Update, e: Errors) -> Clock
         adjustment: PhaseUnits(unmapped_of(a.adjustment)),
         constant: a.constant,
         updated: u.updated,
-        reftime: u.reftime,
+        interval: u.interval,
         maxerror: Micros(e.maxerror),
         esterror: Micros(e.esterror),
         status: e.status,

@@ -3,8 +3,8 @@ ghost use mathlib.Core.Path.{_≡_};
 ghost use Rattle.record.specs.Layout.{numbersOf};
 use clock::Clock;
 
-// The version that is written, and the only one that is read.
-pub(crate) const VERSION: u32 = 1;
+// The version that is written, and the last of those that are read: they are 1 and 2.
+pub(crate) const VERSION: u32 = 2;
 
 fn wide(x: u8) -> u32
     ensures { λ r. ⌜ r ≡ x ⌝ }
@@ -33,7 +33,7 @@ pub(crate) fn numbers(c: Clock) -> [u32; NUMBERS]
         adjustment,
         wide(c.constant),
         wide(c.updated),
-        c.reftime,
+        c.interval,
         c.maxerror.0,
         c.esterror.0,
         wide(c.status),

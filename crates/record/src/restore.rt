@@ -3,23 +3,26 @@ ghost use mathlib.Core.Path.{_≡_};
 ghost use Rattle.number.specs.Layout.{whole, readFrom};
 ghost use Rattle.record.specs.Reading.{restored, readingOf, refusedWith};
 ghost use Rattle.number.specs.Inner.{refusedAs};
-ghost use Rattle.record.specs.Inner.{toldField, lastReftime, fromTime, fromLoop, fromRate, fromUpdate, fromErrors};
+ghost use Rattle.record.specs.Inner.{toldField, lastMost, fromTime, fromLoop, fromRate, fromUpdate, fromErrors};
 use crate::field::Field;
 use crate::field::plain;
 use crate::field::signed;
 use crate::field::version;
 use crate::groups::Errors;
+use crate::groups::Head;
 use crate::groups::Loop;
 use crate::groups::Rate;
 use crate::groups::Time;
 use crate::groups::Update;
 use crate::groups::clock_of;
+use crate::groups::kept_update;
 use clock::Clock;
 use clock::LAST_MICRO;
 use clock::LAST_SECOND;
 use clock::MAX_CONSTANT;
 use clock::MAX_ERROR;
 use clock::MAX_FREQUENCY;
+use clock::MAX_INTERVAL;
 use clock::MAX_OFFSET;
 use clock::PHASE_UPPER_END;
 use clock::RECORDER_256;
@@ -61,11 +64,17 @@ fn refused(d: Field) -> Restored
     }
 }
 
-// The largest second of an earlier update: 0 where there is none.
-fn last_reftime(updated: u32) -> u32
-    ensures { λ r. ⌜ r ≡ lastReftime updated ⌝ }
+// The largest number behind the flag of an earlier update: its second in version 1, the rollovers since it later; 0 where there is none.
+fn last_most(version: u32, flag: u32) -> u32
+    ensures { λ r. ⌜ r ≡ lastMost version flag ⌝ }
 {
-    if updated == 1 { LAST_SECOND } else { 0 }
+    if flag != 1 {
+        return 0;
+    }
+    match version {
+        1 => LAST_SECOND,
+        _ => MAX_INTERVAL,
+    }
 }
 
 // The clock that the bytes are a record of.
@@ -73,18 +82,19 @@ pub fn read(bytes: &[u8]) -> Restored
     ensures { λ r. ⌜ r ≡ readingOf (now (bytes .entry)) ⌝ }
 {
     let d0 = version(bytes);
-    let Field::Value(_, n0) = d0 else {
+    let Field::Value(v, n0) = d0 else {
         return refused(d0);
     };
-    time_fields(bytes, n0)
+    let h = Head { version: v };
+    time_fields(bytes, n0, h)
 }
 
 // Each group of fields takes what was read before it, and hands it on to the next with its own. The groups are small: a call behind more
 // than three fields that may be refused is taken for one that is seldom made, and not inlined.
 
 // Seconds, microseconds and phase.
-fn time_fields(bytes: &[u8], at: usize) -> Restored
-    ensures { λ r. ⌜ r ≡ restored (readFrom fromTime (now (bytes .entry)) at) ⌝ }
+fn time_fields(bytes: &[u8], at: usize, h: Head) -> Restored
+    ensures { λ r. ⌜ r ≡ restored (readFrom (fromTime h) (now (bytes .entry)) at) ⌝ }
 {
     let d1 = plain(bytes, at, LAST_SECOND);
     let Field::Value(seconds, n1) = d1 else {
@@ -103,12 +113,12 @@ fn time_fields(bytes: &[u8], at: usize) -> Restored
         micros: micros,
         phase: phase,
     };
-    loop_fields(bytes, n3, t)
+    loop_fields(bytes, n3, h, t)
 }
 
 // Offset left and frequency.
-fn loop_fields(bytes: &[u8], at: usize, t: Time) -> Restored
-    ensures { λ r. ⌜ r ≡ restored (readFrom (fromLoop t) (now (bytes .entry)) at) ⌝ }
+fn loop_fields(bytes: &[u8], at: usize, h: Head, t: Time) -> Restored
+    ensures { λ r. ⌜ r ≡ restored (readFrom (fromLoop h t) (now (bytes .entry)) at) ⌝ }
 {
     let d1 = plain(bytes, at, MAPPED_OFFSET);
     let Field::Value(offset, n1) = d1 else {
@@ -122,12 +132,12 @@ fn loop_fields(bytes: &[u8], at: usize, t: Time) -> Restored
         offset: offset,
         frequency: frequency,
     };
-    rate_fields(bytes, n2, t, l)
+    rate_fields(bytes, n2, h, t, l)
 }
 
 // Adjustment and time constant.
-fn rate_fields(bytes: &[u8], at: usize, t: Time, l: Loop) -> Restored
-    ensures { λ r. ⌜ r ≡ restored (readFrom (fromRate t l) (now (bytes .entry)) at) ⌝ }
+fn rate_fields(bytes: &[u8], at: usize, h: Head, t: Time, l: Loop) -> Restored
+    ensures { λ r. ⌜ r ≡ restored (readFrom (fromRate h t l) (now (bytes .entry)) at) ⌝ }
 {
     let d1 = signed(bytes, at, RECORDER_256.least.0, MAPPED_ADJUSTMENT);
     let Field::Value(adjustment, n1) = d1 else {
@@ -142,32 +152,28 @@ fn rate_fields(bytes: &[u8], at: usize, t: Time, l: Loop) -> Restored
         adjustment: adjustment,
         constant: constant,
     };
-    update_fields(bytes, n2, t, l, a)
+    update_fields(bytes, n2, h, t, l, a)
 }
 
-// The earlier update: its flag and its second.
-fn update_fields(bytes: &[u8], at: usize, t: Time, l: Loop, a: Rate) -> Restored
-    ensures { λ r. ⌜ r ≡ restored (readFrom (fromUpdate t l a) (now (bytes .entry)) at) ⌝ }
+// The earlier update: its flag, and its second or the rollovers since it.
+fn update_fields(bytes: &[u8], at: usize, h: Head, t: Time, l: Loop, a: Rate) -> Restored
+    ensures { λ r. ⌜ r ≡ restored (readFrom (fromUpdate h t l a) (now (bytes .entry)) at) ⌝ }
 {
     let d1 = plain(bytes, at, 1);
-    let Field::Value(updated, n1) = d1 else {
+    let Field::Value(flag, n1) = d1 else {
         return refused(d1);
     };
-    let d2 = plain(bytes, n1, last_reftime(updated));
-    let Field::Value(reftime, n2) = d2 else {
+    let d2 = plain(bytes, n1, last_most(h.version, flag));
+    let Field::Value(last, n2) = d2 else {
         return refused(d2);
     };
-    let updated = updated as u8;
-    let u = Update {
-        updated: updated,
-        reftime: reftime,
-    };
-    error_fields(bytes, n2, t, l, a, u)
+    let u = kept_update(h.version, flag as u8, last);
+    error_fields(bytes, n2, h, t, l, a, u)
 }
 
 // Both errors and the status, which are the last.
-fn error_fields(bytes: &[u8], at: usize, t: Time, l: Loop, a: Rate, u: Update) -> Restored
-    ensures { λ r. ⌜ r ≡ restored (readFrom (fromErrors t l a u) (now (bytes .entry)) at) ⌝ }
+fn error_fields(bytes: &[u8], at: usize, h: Head, t: Time, l: Loop, a: Rate, u: Update) -> Restored
+    ensures { λ r. ⌜ r ≡ restored (readFrom (fromErrors h t l a u) (now (bytes .entry)) at) ⌝ }
 {
     let d1 = plain(bytes, at, MAX_ERROR);
     let Field::Value(maxerror, n1) = d1 else {

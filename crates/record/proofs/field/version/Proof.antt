@@ -1,34 +1,33 @@
--- `record::version` meets its contract: the one known version.
+-- `record::version` meets its contract: its two tests are the known versions.
 use borrow.Author.Needs.{needs}
-use mathlib.Core.Path.{_≡_, sym, _∙_, ap}
+use borrow.Author.Tests.{le-leb, lt-leb}
 use native.Mathlib.Omega.{arith}
-use Prim.Native.Nat.{ℕ}
-use Rattle.number.specs.Reading.{number}
-use borrow.Author.Tests.{eq-eqb, ne-eqb}
-use Rattle.record.specs.Layout.{version}
+use Rattle.record.specs.Layout.{newest}
 use Rattle.record.proofs.FieldLaws.{field-no, field-in, field-out}
 use Rattle.record.proofs.field.version.Statement.{statement}
 use Rattle.record.proofs.field.version.Tie as tie
 
-cast-if1 : tie.Need-cast-if1
-cast-if1 c = search needs
-
 returns : tie.Need-returns
 returns c =
     let v = c .before .before in
-    let known : v .value .given .0 .0 ≡ version = omega arith in
-    ap (λ (n : ℕ). number n (v .value .given .0 .1 .0)) (sym known) ∙ field-in _ _ _ (v .before .before .read .ensures) (v .value .given .1) (eq-eqb _ _ known)
+    field-out _ _ _ (v .before .before .read .ensures) (v .value .given .1) (simp (lt-leb 1 (v .value .given .0 .0) (omega arith)))
 
 returns-2 : tie.Need-returns-2
-returns-2 c = field-no _ _ _ (c .before .before .before .read .ensures) (c .before .n .given .1)
+returns-2 c =
+    let v = c .before .before .before in
+    let n = v .value .given .0 .0 in
+    field-in _ _ _ (v .before .before .read .ensures) (v .value .given .1) (simp (le-leb 1 n (omega arith), le-leb n newest (omega arith)))
 
 returns-3 : tie.Need-returns-3
-returns-3 c =
-    let v = c .before .before in
-    let other : v .value .given .0 .0 ≡ version → ⊥ = λ h. omega (arith, c .if1 .left) in
-    field-out _ _ _ (v .before .before .read .ensures) (v .value .given .1) (ne-eqb _ _ other)
+returns-3 c = field-no _ _ _ (c .before .before .before .read .ensures) (c .before .n .given .1)
+
+returns-4 : tie.Need-returns-4
+returns-4 c =
+    let v = c .before .before .before in
+    let n = v .value .given .0 .0 in
+    field-out _ _ _ (v .before .before .read .ensures) (v .value .given .1) (simp (le-leb 1 n (omega arith), lt-leb n newest (omega arith)))
 
 pub version-spec : {M : Type 1} → statement M
 version-spec =
     tie.close
-    (tie.spec (λ c κs. tt) (λ c. search needs) (λ c. search needs) cast-if1 returns returns-2 returns-3)
+    (tie.spec (λ c κs. tt) (λ c. search needs) (λ c. search needs) returns (λ c. search needs) returns-2 returns-3 returns-4)

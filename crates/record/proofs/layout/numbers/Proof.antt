@@ -3,7 +3,7 @@ use borrow.Author.Needs.{needs}
 use mir.Syntax.{w32}
 use mir.Val.{SFits}
 use mir.Facts.{toZ-ofZ}
-use Rattle.record.specs.Layout.{numbersOf}
+use Rattle.record.specs.Layout.{numbersIn}
 use Rattle.record.proofs.layout.numbers.Statement.{statement}
 use Rattle.record.proofs.layout.numbers.Tie as tie
 
@@ -20,7 +20,7 @@ fits-adjustment : (s : tie.Start) → SFits w32 (s .args .c .adjustment .0)
 fits-adjustment s = search needs
 
 returns : tie.Need-returns
-unfolding numbersOf
+unfolding numbersIn
 returns c =
     let m = c .before .before .before in
     let s = m .before .before .before .before .before .before .before .before in

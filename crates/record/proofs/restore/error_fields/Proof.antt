@@ -10,6 +10,7 @@ use Rattle.number.proofs.Layouts.{AtField, field-went, field-stopped}
 use Rattle.record.specs.Layout.{errorFields, clockOf}
 use Rattle.record.specs.Reading.{restored}
 use Rattle.record.specs.Inner.{toldField, upTo, fromErrors}
+use Rattle.record.specs.declared.groups.Head.{Head}
 use Rattle.record.specs.declared.groups.Time.{Time}
 use Rattle.record.specs.declared.groups.Loop.{Loop}
 use Rattle.record.specs.declared.groups.Rate.{Rate}
@@ -19,22 +20,22 @@ use Rattle.record.proofs.FieldLaws.{read-in}
 use Rattle.record.proofs.restore.error_fields.Statement.{statement}
 use Rattle.record.proofs.restore.error_fields.Tie as tie
 
-opened : (t : Time) (l : Loop) (a : Rate) (u : Update) (s : List ℕ) (at : ℕ) → restored (readFrom (fromErrors t l a u) s at) ≡ restored (readFrom (errorFields (λ e. whole (clockOf t l a u e))) s at)
+opened : (h : Head) (t : Time) (l : Loop) (a : Rate) (u : Update) (s : List ℕ) (at : ℕ) → restored (readFrom (fromErrors h t l a u) s at) ≡ restored (readFrom (errorFields (λ e. whole (clockOf t l a u e))) s at)
 unfolding fromErrors
-opened t l a u s at = refl
+opened h t l a u s at = refl
 
 abbrev at-maxerror : tie.After-shared-slice-known → AtField restored
 at-maxerror c =
     let i = c .before .args in
-    record { all = _; range = _; rest = _; bytes = _; at = _; is = opened (i .t) (i .l) (i .a) (i .u) (i .bytes .now) (i .at) }
+    record { all = _; here = _; range = _; rest = _; bytes = _; at = _; is = opened (i .h) (i .t) (i .l) (i .a) (i .u) (i .bytes .now) (i .at) }
 
 abbrev at-esterror : tie.After-known-told → AtField restored
 at-esterror c =
-    record { all = _; range = _; rest = _; bytes = _; at = _; is = field-went (at-maxerror (c .before .before .before .before)) (c .before .before .before .plain .ensures) (ap toldField (c .before .d1 .given .1)) }
+    record { all = _; here = _; range = _; rest = _; bytes = _; at = _; is = field-went (at-maxerror (c .before .before .before .before)) (c .before .before .before .plain .ensures) (ap toldField (c .before .d1 .given .1)) }
 
 abbrev at-status : tie.After-known-told2 → AtField restored
 at-status c =
-    record { all = _; range = _; rest = _; bytes = _; at = _; is = field-went (at-esterror (c .before .before .before .before)) (c .before .before .before .plain2 .ensures) (ap toldField (c .before .d2 .given .1)) }
+    record { all = _; here = _; range = _; rest = _; bytes = _; at = _; is = field-went (at-esterror (c .before .before .before .before)) (c .before .before .before .plain2 .ensures) (ap toldField (c .before .d2 .given .1)) }
 
 returns : tie.Need-returns
 returns c = field-stopped (at-maxerror (c .before .before .before .before)) (c .before .before .before .plain .ensures) (ap toldField (c .before .enum-told .given .1)) (c .refused .ensures)

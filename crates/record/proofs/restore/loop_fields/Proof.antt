@@ -8,23 +8,24 @@ use Rattle.number.proofs.Layouts.{AtField, field-went, field-stopped}
 use Rattle.record.specs.Layout.{loopFields}
 use Rattle.record.specs.Reading.{restored}
 use Rattle.record.specs.Inner.{toldField, fromLoop, fromRate}
+use Rattle.record.specs.declared.groups.Head.{Head}
 use Rattle.record.specs.declared.groups.Time.{Time}
 use Rattle.record.proofs.FieldLaws.{frequency-field, offset-field}
 use Rattle.record.proofs.restore.loop_fields.Statement.{statement}
 use Rattle.record.proofs.restore.loop_fields.Tie as tie
 
-opened : (t : Time) (s : List ℕ) (at : ℕ) → restored (readFrom (fromLoop t) s at) ≡ restored (readFrom (loopFields (λ l. fromRate t l)) s at)
+opened : (h : Head) (t : Time) (s : List ℕ) (at : ℕ) → restored (readFrom (fromLoop h t) s at) ≡ restored (readFrom (loopFields (λ l. fromRate h t l)) s at)
 unfolding fromLoop
-opened t s at = refl
+opened h t s at = refl
 
 abbrev at-offset : tie.After-shared-slice-known → AtField restored
 at-offset c =
     let i = c .before .args in
-    record { all = _; range = _; rest = _; bytes = _; at = _; is = opened (i .t) (i .bytes .now) (i .at) }
+    record { all = _; here = _; range = _; rest = _; bytes = _; at = _; is = opened (i .h) (i .t) (i .bytes .now) (i .at) }
 
 abbrev at-frequency : tie.After-known-told → AtField restored
 at-frequency c =
-    record { all = _; range = _; rest = _; bytes = _; at = _; is = field-went (at-offset (c .before .before .before .before)) (c .before .before .before .plain .ensures ∙ offset-field _ _) (ap toldField (c .before .d1 .given .1)) }
+    record { all = _; here = _; range = _; rest = _; bytes = _; at = _; is = field-went (at-offset (c .before .before .before .before)) (c .before .before .before .plain .ensures ∙ offset-field _ _) (ap toldField (c .before .d1 .given .1)) }
 
 returns : tie.Need-returns
 returns c = field-stopped (at-offset (c .before .before .before .before)) (c .before .before .before .plain .ensures ∙ offset-field _ _) (ap toldField (c .before .enum-told .given .1)) (c .refused .ensures)

@@ -10,6 +10,7 @@ use Rattle.number.proofs.Layouts.{AtField, field-went, field-stopped}
 use Rattle.record.specs.Layout.{rateFields}
 use Rattle.record.specs.Reading.{restored}
 use Rattle.record.specs.Inner.{toldField, upTo, fromRate, fromUpdate}
+use Rattle.record.specs.declared.groups.Head.{Head}
 use Rattle.record.specs.declared.groups.Time.{Time}
 use Rattle.record.specs.declared.groups.Loop.{Loop}
 use Rattle.record.proofs.Ranges.{byte}
@@ -17,18 +18,18 @@ use Rattle.record.proofs.FieldLaws.{adjustment-field, read-in}
 use Rattle.record.proofs.restore.rate_fields.Statement.{statement}
 use Rattle.record.proofs.restore.rate_fields.Tie as tie
 
-opened : (t : Time) (l : Loop) (s : List ℕ) (at : ℕ) → restored (readFrom (fromRate t l) s at) ≡ restored (readFrom (rateFields (λ a. fromUpdate t l a)) s at)
+opened : (h : Head) (t : Time) (l : Loop) (s : List ℕ) (at : ℕ) → restored (readFrom (fromRate h t l) s at) ≡ restored (readFrom (rateFields (λ a. fromUpdate h t l a)) s at)
 unfolding fromRate
-opened t l s at = refl
+opened h t l s at = refl
 
 abbrev at-adjustment : tie.After-struct-told → AtField restored
 at-adjustment c =
     let i = c .before .before .args in
-    record { all = _; range = _; rest = _; bytes = _; at = _; is = opened (i .t) (i .l) (i .bytes .now) (i .at) }
+    record { all = _; here = _; range = _; rest = _; bytes = _; at = _; is = opened (i .h) (i .t) (i .l) (i .bytes .now) (i .at) }
 
 abbrev at-constant : tie.After-known-told → AtField restored
 at-constant c =
-    record { all = _; range = _; rest = _; bytes = _; at = _; is = field-went (at-adjustment (c .before .before .before .before)) (c .before .before .before .signed .ensures ∙ adjustment-field _ _) (ap toldField (c .before .d1 .given .1)) }
+    record { all = _; here = _; range = _; rest = _; bytes = _; at = _; is = field-went (at-adjustment (c .before .before .before .before)) (c .before .before .before .signed .ensures ∙ adjustment-field _ _) (ap toldField (c .before .d1 .given .1)) }
 
 returns : tie.Need-returns
 returns c = field-stopped (at-adjustment (c .before .before .before .before)) (c .before .before .before .signed .ensures ∙ adjustment-field _ _) (ap toldField (c .before .enum-told .given .1)) (c .refused .ensures)

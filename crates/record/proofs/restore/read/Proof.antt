@@ -10,12 +10,12 @@ use Rattle.record.specs.Inner.{toldField, fromTime, fromLoop, fromRate, 
 use Rattle.record.proofs.restore.read.Statement.{statement}
 use Rattle.record.proofs.restore.read.Tie as tie
 
-opened : (s : List ℕ) → readingOf s ≡ restored (readFrom (field knownVersion (λ version. fromTime)) s 0)
+opened : (s : List ℕ) → readingOf s ≡ restored (readFrom (field knownVersion (λ version. fromTime (record { version = version }))) s 0)
 unfolding readingOf recordLayout fromTime fromLoop fromRate fromUpdate fromErrors
 opened s = refl
 
 abbrev at-version : tie.After-shared-slice-known → AtField restored
-at-version c = record { all = _; range = _; rest = _; bytes = _; at = _; is = opened (c .before .args .bytes .now) }
+at-version c = record { all = _; here = _; range = _; rest = _; bytes = _; at = _; is = opened (c .before .args .bytes .now) }
 
 returns : tie.Need-returns
 returns c = field-stopped (at-version (c .before .before .before .before)) (c .before .before .before .version .ensures) (ap toldField (c .before .enum-told .given .1)) (c .refused .ensures)

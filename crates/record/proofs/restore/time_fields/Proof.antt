@@ -8,26 +8,27 @@ use Rattle.number.proofs.Layouts.{AtField, field-went, field-stopped}
 use Rattle.record.specs.Layout.{timeFields}
 use Rattle.record.specs.Reading.{restored}
 use Rattle.record.specs.Inner.{toldField, fromTime, fromLoop}
+use Rattle.record.specs.declared.groups.Head.{Head}
 use Rattle.record.proofs.FieldLaws.{phase-field}
 use Rattle.record.proofs.restore.time_fields.Statement.{statement}
 use Rattle.record.proofs.restore.time_fields.Tie as tie
 
-opened : (s : List ℕ) (at : ℕ) → restored (readFrom fromTime s at) ≡ restored (readFrom (timeFields (λ t. fromLoop t)) s at)
+opened : (h : Head) (s : List ℕ) (at : ℕ) → restored (readFrom (fromTime h) s at) ≡ restored (readFrom (timeFields (λ t. fromLoop h t)) s at)
 unfolding fromTime
-opened s at = refl
+opened h s at = refl
 
 abbrev at-seconds : tie.After-shared-slice-known → AtField restored
 at-seconds c =
     let i = c .before .args in
-    record { all = _; range = _; rest = _; bytes = _; at = _; is = opened (i .bytes .now) (i .at) }
+    record { all = _; here = _; range = _; rest = _; bytes = _; at = _; is = opened (i .h) (i .bytes .now) (i .at) }
 
 abbrev at-micros : tie.After-known-told → AtField restored
 at-micros c =
-    record { all = _; range = _; rest = _; bytes = _; at = _; is = field-went (at-seconds (c .before .before .before .before)) (c .before .before .before .plain .ensures) (ap toldField (c .before .d1 .given .1)) }
+    record { all = _; here = _; range = _; rest = _; bytes = _; at = _; is = field-went (at-seconds (c .before .before .before .before)) (c .before .before .before .plain .ensures) (ap toldField (c .before .d1 .given .1)) }
 
 abbrev at-phase : tie.After-known-told2 → AtField restored
 at-phase c =
-    record { all = _; range = _; rest = _; bytes = _; at = _; is = field-went (at-micros (c .before .before .before .before)) (c .before .before .before .plain2 .ensures) (ap toldField (c .before .d2 .given .1)) }
+    record { all = _; here = _; range = _; rest = _; bytes = _; at = _; is = field-went (at-micros (c .before .before .before .before)) (c .before .before .before .plain2 .ensures) (ap toldField (c .before .d2 .given .1)) }
 
 returns : tie.Need-returns
 returns c = field-stopped (at-seconds (c .before .before .before .before)) (c .before .before .before .plain .ensures) (ap toldField (c .before .enum-told .given .1)) (c .refused .ensures)

@@ -7,7 +7,7 @@ use native.Mathlib.Omega.{arith}
 use Rattle.number.specs.Form.{bytesOfAll}
 use Rattle.number.specs.Writing.{answered, filled}
 use Rattle.clock.specs.State.{inRange}
-use Rattle.record.specs.Layout.{numbersOf, recordOf}
+use Rattle.record.specs.Layout.{numbersIn, recordIn, recordOf}
 use Rattle.record.proofs.SavingLaws.{Drafted, drafted, copied, out-of-range, too-short, stored}
 use Rattle.record.proofs.save.write.Statement.{statement}
 use Rattle.record.proofs.save.write.Tie as tie
@@ -16,11 +16,11 @@ abbrev start : tie.After-write-all → tie.Start
 start c = c .before .before .before .before .before .before .before
 
 whole : (c : tie.After-write-all) → bytesOfAll (c .before .before .before .numbers .result) ≡ recordOf (start c .args .c)
-unfolding recordOf
+unfolding recordIn
 whole c = ap bytesOfAll (c .before .before .before .numbers .ensures)
 
 draft : (c : tie.After-write-all) → Drafted (start c .args .c) (c .write-all .result) (c .write-all .last .0)
-unfolding numbersOf
+unfolding numbersIn
 draft c =
     drafted (start c .args .c) _ refl
     (c .write-all .ensures .answer ∙ ap (answered _ 0) (whole c))
