@@ -58,21 +58,21 @@ fn micros(case: u64) -> u64 {
     )
 }
 
-// What follows the flag of an earlier update, up to `limit`: anything up to it, often near its ends, once in eight above it; 0 mostly where
-// the flag is 0.
+// What follows the flag of an earlier update, up to `limit`: anything up to it, often near its ends, once in 16 above it; where the flag is
+// 0, 0, and once in 16 1.
 pub(crate) fn since(case: u64, flag: u64, limit: u64) -> u64 {
     let v = draw(case, 23);
     let n = v / 16;
-    match pick(flag == 0, 8, v % 8) {
-        8 => v % 8 / 7,
+    match pick(flag == 0, 16, v % 16) {
+        16 => v % 16 / 15,
         0 => plus(limit, 1 + n % 3),
-        1 | 2 => minus(limit, n % 3),
-        3 => n % 3,
+        1 | 2 | 3 => minus(limit, n % 3),
+        4 => n % 3,
         _ => n % (limit % 4294967296 + 1),
     }
 }
 
-// A clock, about three of five sound.
+// A clock, about half of them sound.
 pub(crate) fn state(case: u64) -> State {
     let mut s = crate::rules::fresh();
     s.seconds = second(case, 1);
