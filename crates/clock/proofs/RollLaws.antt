@@ -1,7 +1,7 @@
 -- A rollover: its numbers fit 32 bits, the leap step by its three cases, and the clock stays in its ranges.
-use mathlib.Core.Path.{_≡_, refl}
+use mathlib.Core.Path.{_≡_, refl, _∙_, ap}
 use mathlib.Core.Bool.{Bool, true, false, cond, _||_}
-use Prim.Native.Nat.{ℕ, _+_, _/_, _%_, _≤_, _<_, min}
+use Prim.Native.Nat.{ℕ, _+_, _/_, _%_, _≤_, _<_}
 use native.Mathlib.Omega.{arith}
 use native.Mathlib.Nat.{lt-of-le-of-lt, div-le-self, mul-div-le, mul-le-mul-right}
 use borrow.Author.Needs.{needs}
@@ -9,7 +9,7 @@ use lib.Pow.{pow-mono, pow-pos}
 use lib.IntN.{ℤ, pos, _+ℤ_, _*ℤ_}
 use lib.Signed.{quotZ}
 use lib.Dec.{eqb, lit<}
-use borrow.Author.Tests.{eqb-true}
+use borrow.Author.Tests.{eqb-true, eq-eqb}
 use mir.Syntax.{w32}
 use mir.Val.{SFits}
 use Rattle.integers.proofs.Parts.{posPart, negPart, parts, one-part, sfits-parts}
@@ -109,11 +109,18 @@ module _ (status s : ℕ) where
   leap-status h (del e f) = simp (e, f) (omega arith)
   leap-status h (none e f) = simp (e, f) (unless-oop (eqb status 3) h)
 
--- the interval stays in its range, and 0 where there is no earlier update
-interval-by : (b : Bool) (n : ℕ) → n ≤ 1024 → b || eqb n 0 ≡ true
-    → (cond b (min (n + 1) 1024) n ≤ 1024) × (b || eqb (cond b (min (n + 1) 1024) n) 0 ≡ true)
-interval-by true n h e = (omega arith, refl)
-interval-by false n h e = (h, e)
+-- the interval stays in its range
+interval-most : (flag n : ℕ) (b : Bool) → eqb flag 1 ≡ b → n ≤ 1024 → intervalGrown flag n ≤ 1024
+interval-most flag n true f h = simp f (omega arith)
+interval-most flag n false f h = simp f (omega arith)
+
+-- .. and 0 where there is no earlier update
+interval-none : (flag n : ℕ) (b : Bool) → eqb flag 1 ≡ b → n ≤ 1024 → eqb flag 1 || eqb n 0 ≡ true → eqb flag 1 || eqb (intervalGrown flag n) 0 ≡ true
+interval-none flag n true f h e = simp f
+interval-none flag n false f h e =
+    let z : n ≡ 0 = eqb-true n 0 (simp f at e) in
+    let none : intervalGrown flag n ≡ 0 = simp f (omega arith) in
+    ap (λ (x : Bool). eqb flag 1 || x) (eq-eqb (intervalGrown flag n) 0 none) ∙ simp f
 
 pub rolled-ok : (c : Clock) → Ok c → c .seconds < 4294967295 → Ok (rolledOver c)
 unfolding rolledOver
@@ -121,7 +128,8 @@ rolled-ok c k h =
     search (
       needs,
       leap-seconds (c .status) (c .seconds + 1) (omega arith) (leapCase (c .status) (c .seconds + 1)),
-      interval-by (eqb (c .updated) 1) (c .interval) (k .interval) (k .update),
+      interval-most (c .updated) (c .interval) (eqb (c .updated) 1) refl (k .interval),
+      interval-none (c .updated) (c .interval) (eqb (c .updated) 1) refl (k .interval) (k .update),
       rest-parts c k,
       adjustment-parts (share c) (c .frequency .0) (share-parts c k) (k .frequency),
       leap-status (c .status) (c .seconds + 1) (k .status) (leapCase (c .status) (c .seconds + 1)),

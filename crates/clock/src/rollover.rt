@@ -41,11 +41,12 @@ fn interval_grown(updated: u8, n: u32) -> u32
     requires { ⌜ n ≤ longestInterval ⌝ }
     ensures { λ r. ⌜ r ≡ intervalGrown updated n ⌝ }
 {
-    if (updated == 1) & (n < MAX_INTERVAL) {
-        n + 1
-    } else {
-        n
+    if updated == 1 {
+        if n < MAX_INTERVAL {
+            return n + 1;
+        }
     }
+    n
 }
 
 // What a share is of the offset that is left, at time constant 0.

@@ -72,7 +72,7 @@ fn clock_of(s: State) -> Clock {
         adjustment: PhaseUnits(to_i32(s.adjustment)),
         constant: byte(s.constant),
         updated: byte(s.flag),
-        reftime: word(s.earlier),
+        interval: word(s.since),
         maxerror: Micros(word(s.maximum)),
         esterror: Micros(word(s.estimated)),
         status: byte(s.status),
@@ -99,7 +99,7 @@ fn same_clock(s: State, c: Clock) -> bool {
     same = same & same_signed(s.frequency, c.frequency.0);
     same = same & same_signed(s.adjustment, c.adjustment.0);
     same = same & same_byte(s.constant, c.constant) & same_byte(s.flag, c.updated);
-    same = same & same_word(s.earlier, c.reftime) & same_word(s.maximum, c.maxerror.0);
+    same = same & same_word(s.since, c.interval) & same_word(s.maximum, c.maxerror.0);
     same & same_word(s.estimated, c.esterror.0) & same_byte(s.status, c.status)
 }
 

@@ -58,21 +58,21 @@ fn micros(case: u64) -> u64 {
     )
 }
 
-// The second of an earlier update: mostly less than 1,100 before the present one, often about 1,024, or anywhere; 0 mostly where there was
-// none.
-fn earlier(case: u64, flag: u64, seconds: u64) -> u64 {
+// What follows the flag of an earlier update, up to `limit`: anything up to it, often near its ends, once in 16 above it; where the flag is
+// 0, 0, and once in 16 1.
+pub(crate) fn since(case: u64, flag: u64, limit: u64) -> u64 {
     let v = draw(case, 23);
     let n = v / 16;
-    match pick(flag == 0, 8, v % 8) {
-        8 => v % 8 / 7,
-        0 => n % 4294967296,
-        1 => least(plus(seconds, n % 3), 4294967295),
-        2 | 3 => minus(seconds, 1022 + n % 5),
-        _ => minus(seconds, n % 1100),
+    match pick(flag == 0, 16, v % 16) {
+        16 => v % 16 / 15,
+        0 => plus(limit, 1 + n % 3),
+        1 | 2 | 3 => minus(limit, n % 3),
+        4 => n % 3,
+        _ => n % (limit % 4294967296 + 1),
     }
 }
 
-// A clock, about three of five sound.
+// A clock, about half of them sound.
 pub(crate) fn state(case: u64) -> State {
     let mut s = crate::rules::fresh();
     s.seconds = second(case, 1);
@@ -84,7 +84,7 @@ pub(crate) fn state(case: u64) -> State {
     s.adjustment = near(case, 16, limit, 4294967295);
     s.constant = near(case, 20, 4, 255);
     s.flag = near(case, 21, 1, 255);
-    s.earlier = earlier(case, s.flag, s.seconds);
+    s.since = since(case, s.flag, 1024);
     s.maximum = near(case, 24, 16000000, 4294967295);
     s.estimated = near(case, 26, 16000000, 4294967295);
     s.status = near(case, 28, 4, 255);

@@ -28,13 +28,27 @@ pub(crate) fn write(case: u64) -> Verdict {
     agree(write_record(s, fill, room), refusal, fill, d)
 }
 
-// A clock's record, once in 16 of another version and once in 16 other bytes in its place; whole or damaged.
-fn some_record(case: u64) -> Bytes {
-    let v = draw(case, 510);
+// A clock's record, which is of version 2; once in 16 of any other.
+fn some_row(case: u64) -> [u64; 13] {
+    let v = draw(case, 511);
     let mut row = row_of(crate::random::state(case));
-    row[0] = pick(v % 16 == 0, v / 256 % 300, 1);
+    row[0] = pick(v % 16 == 0, v / 16 % 300, 2);
+    row
+}
+
+// A clock's record of version 1, with a second of the earlier update.
+fn some_old_row(case: u64) -> [u64; 13] {
+    let mut row = row_of(crate::random::state(case));
+    row[0] = 1;
+    row[9] = crate::random::since(case, row[8], 4294967295);
+    row
+}
+
+// The bytes of a record, once in 16 other bytes in its place; whole or damaged.
+fn bytes_of(row: &[u64; 13], case: u64) -> Bytes {
+    let v = draw(case, 510);
     let mut bytes = crate::random::some_bytes(case);
-    let end = put_all(&mut bytes, 0, &row, pick(v / 16 % 16 == 0, 0, WHOLE));
+    let end = put_all(&mut bytes, 0, row, pick(v % 16 == 0, 0, WHOLE));
     crate::random::damaged(
         Bytes {
             bytes: bytes,
@@ -62,12 +76,20 @@ fn read_record(bytes: &[u8; 64], end: usize) -> Answer {
     }
 }
 
-pub(crate) fn read(case: u64) -> Verdict {
-    let b = some_record(case);
+fn compared(row: &[u64; 13], case: u64) -> Verdict {
+    let b = bytes_of(row, case);
     let bytes = b.bytes;
     let a = read_record(&bytes, b.end);
     Verdict {
         refusal: a.refusal,
         same: same_record(bytes, b.end, a),
     }
+}
+
+pub(crate) fn read(case: u64) -> Verdict {
+    compared(&some_row(case), case)
+}
+
+pub(crate) fn read_old(case: u64) -> Verdict {
+    compared(&some_old_row(case), case)
 }

@@ -1,5 +1,5 @@
-// Document 01's state and events, a second time: ticks, rollovers, settings and requests, by sign and size. Signed fields are held as the
-// numbers that they are mapped to.
+// The state and events of documents 01 and 02, a second time: ticks, rollovers, settings and requests, by sign and size. Signed fields are
+// held as the numbers that they are mapped to.
 use crate::signed::Signed;
 use crate::signed::halved;
 use crate::signed::least;
@@ -10,7 +10,7 @@ use crate::signed::plus;
 use crate::signed::sum;
 use crate::signed::unmapped;
 
-// The table of document 01, in its order.
+// The table of document 01, in its order; `since` is document 02's number of rollovers since the last offset, in place of its second.
 pub(crate) struct State {
     pub(crate) seconds: u64,
     pub(crate) micros: u64,
@@ -20,7 +20,7 @@ pub(crate) struct State {
     pub(crate) adjustment: u64,
     pub(crate) constant: u64,
     pub(crate) flag: u64,
-    pub(crate) earlier: u64,
+    pub(crate) since: u64,
     pub(crate) maximum: u64,
     pub(crate) estimated: u64,
     pub(crate) status: u64,
@@ -41,17 +41,17 @@ pub(crate) fn fresh() -> State {
         adjustment: 134217728,
         constant: 0,
         flag: 0,
-        earlier: 0,
+        since: 0,
         maximum: 16000000,
         estimated: 16000000,
         status: 4,
     }
 }
 
-// The numbers of a state's record.
+// The numbers of a state's record, which is of version 2.
 pub(crate) fn row_of(s: State) -> [u64; 13] {
     [
-        1,
+        2,
         s.seconds,
         s.micros,
         s.phase,
@@ -60,14 +60,14 @@ pub(crate) fn row_of(s: State) -> [u64; 13] {
         s.adjustment,
         s.constant,
         s.flag,
-        s.earlier,
+        s.since,
         s.maximum,
         s.estimated,
         s.status,
     ]
 }
 
-// The state of a record's numbers.
+// The state of a record's numbers. One of version 1 has no earlier update, whatever it says of one.
 pub(crate) fn state_of(row: &[u64; 13]) -> State {
     State {
         seconds: row[1],
@@ -77,33 +77,34 @@ pub(crate) fn state_of(row: &[u64; 13]) -> State {
         frequency: row[5],
         adjustment: row[6],
         constant: row[7],
-        flag: row[8],
-        earlier: row[9],
+        flag: pick(row[0] == 1, 0, row[8]),
+        since: pick(row[0] == 1, 0, row[9]),
         maximum: row[10],
         estimated: row[11],
         status: row[12],
     }
 }
 
-// The largest number at place k of a record. A field from -m to m is mapped to 0 to 2m.
+// The largest number at place k of a record. A field from -m to m is mapped to 0 to 2m. At place 9 version 1 has a second, version 2 a count.
 fn most_at(row: &[u64; 13], k: usize) -> u64 {
     match k {
+        0 => 2,
         1 => 4294967295,
         2 => 999999,
         3 => 536870910,
         4 => 4194271232,
         5 => 3355443200,
         6 => pick(row[6] % 2 == 1, 337639423, 606074880),
-        9 => row[8] % 2 * 4294967295,
+        9 => pick(row[8] == 0, 0, pick(row[0] == 1, 4294967295, 1024)),
         10 | 11 => 16000000,
         7 | 12 => 4,
         _ => 1,
     }
 }
 
-// Whether the first `count` numbers of a record are in range, the version known.
+// Whether the first `count` numbers of a record are in range, the version 1 or 2.
 pub(crate) fn fits(row: &[u64; 13], count: u64) -> bool {
-    let mut ok = (count == 0) | (row[0] == 1);
+    let mut ok = (count == 0) | (0 < row[0]);
     let mut k: usize = 0;
     while k < 13 {
         ok = ok & ((count <= k as u64) | (row[k] <= most_at(row, k)));
@@ -150,6 +151,7 @@ fn rolled(s: State) -> State {
     t.seconds = plus(s.seconds, 1);
     t.micros = minus(s.micros, 1000000);
     t.maximum = least(plus(s.maximum, 100), 16000000);
+    t.since = least(plus(s.since, s.flag), 1024);
     t.left = mapped(left.negative, minus(left.size, share));
     t.adjustment = adjustment_of(left.negative, share, s.frequency);
     leapt(t)
@@ -232,8 +234,7 @@ fn times(a: u64, b: u64) -> u64 {
 
 // The frequency with the gain of an offset.
 fn gained(s: State, offset: Signed) -> u64 {
-    let interval = pick(s.flag == 0, 0, least(minus(s.seconds, s.earlier), 1024));
-    let quarter = halved(times(offset.size, interval), s.constant);
+    let quarter = halved(times(offset.size, s.since), s.constant);
     let gain = Signed {
         negative: offset.negative,
         size: halved(quarter, s.constant),
@@ -248,7 +249,7 @@ fn offset_effects(s: State, n: u64, writes_bad: bool) -> State {
     t.left = mapped(offset.negative, offset.size % 131072 * 16384);
     t.frequency = gained(s, offset);
     t.flag = 1;
-    t.earlier = s.seconds;
+    t.since = 0;
     t.status = pick((s.status == 4) & !writes_bad, 0, s.status);
     t
 }

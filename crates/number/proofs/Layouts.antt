@@ -28,44 +28,55 @@ use Rattle.number.proofs.Sizes.{sizes-below, sizes-none}
 
 -- ---- the numbers of a record
 
--- a number for each place: in its range, and 0 where the place is not there
+-- a number that suits a place: one in its range, and 0 where the place is not there
+abbrev suits : Bool → (ℕ → Bool) → ℕ → Bool
+suits here range n = cond here (range n) (eqb n 0)
+
+-- a number for each place
 unfoldable pub Choice : {A : Type 0} → Layout A → Type 0
-Choice (place here range rest) = record { n : ℕ; small : n < limit; fits : cond here (range n) (eqb n 0) ≡ true; more : Choice (rest n) }
+Choice (place here range rest) = record { n : ℕ; small : n < limit; fits : suits here range n ≡ true; more : Choice (rest n) }
 Choice (whole saved) = record {}
 
--- the numbers that are written, and what they stand for
-unfoldable pub chosen : {A : Type 0} (l : Layout A) → Choice l → List ℕ
+unfoldable pub picked : {A : Type 0} (l : Layout A) → Choice l → List ℕ
 unfolding Choice
-chosen (place here range rest) k = cond here (k .n ∷ chosen (rest (k .n)) (k .more)) (chosen (rest (k .n)) (k .more))
-chosen (whole saved) k = []
+picked (place here range rest) k = k .n ∷ picked (rest (k .n)) (k .more)
+picked (whole saved) k = []
 
+-- what they stand for
 unfoldable pub stands : {A : Type 0} (l : Layout A) → Choice l → A
 unfolding Choice
 stands (place here range rest) k = stands (rest (k .n)) (k .more)
 stands (whole saved) k = saved
 
--- ---- numbers that a layout allows
+-- of numbers for each place, those that are written: the places are there
+unfoldable pub written : {A : Type 0} → Layout A → List ℕ → List ℕ
+written (place here range rest) [] = []
+written (place here range rest) (n ∷ ns) = cond here (n ∷ written (rest n) ns) (written (rest n) ns)
+written (whole saved) ns = []
+
+abbrev pub chosen : {A : Type 0} (l : Layout A) → Choice l → List ℕ
+chosen l k = written l (picked l k)
+
+-- ---- numbers that a layout allows, one for each place
 
 unfoldable pub allows : {A : Type 0} → Layout A → List ℕ → Bool
-allows (place true range rest) [] = false
-allows (place true range rest) (n ∷ ns) = range n && allows (rest n) ns
-allows (place false range rest) ns = allows (rest 0) ns
+allows (place here range rest) [] = false
+allows (place here range rest) (n ∷ ns) = suits here range n && allows (rest n) ns
 allows (whole saved) [] = true
 allows (whole saved) (n ∷ ns) = false
 
 -- the same tests, joined from the first on, after others
 unfoldable pub joined : {A : Type 0} → Bool → Layout A → List ℕ → Bool
-joined so (place true range rest) [] = false
-joined so (place true range rest) (n ∷ ns) = joined (so && range n) (rest n) ns
-joined so (place false range rest) ns = joined so (rest 0) ns
+joined so (place here range rest) [] = false
+joined so (place here range rest) (n ∷ ns) = joined (so && suits here range n) (rest n) ns
 joined so (whole saved) [] = so
 joined so (whole saved) (n ∷ ns) = false
 
 pub allows-joined : {A : Type 0} (so : Bool) (l : Layout A) (ns : List ℕ) → so && allows l ns ≡ joined so l ns
 unfolding allows joined
-allows-joined so (place true range rest) [] = and-false so
-allows-joined so (place true range rest) (n ∷ ns) = sym (and-assoc so (range n) (allows (rest n) ns)) ∙ allows-joined (so && range n) (rest n) ns
-allows-joined so (place false range rest) ns = allows-joined so (rest 0) ns
+allows-joined so (place here range rest) [] = and-false so
+allows-joined so (place here range rest) (n ∷ ns) =
+    sym (and-assoc so (suits here range n) (allows (rest n) ns)) ∙ allows-joined (so && suits here range n) (rest n) ns
 allows-joined so (whole saved) [] = and-one so
 allows-joined so (whole saved) (n ∷ ns) = and-false so
 
@@ -83,34 +94,35 @@ unfoldable pub sized-end : {A : Type 0} (saved : A) → Sized (whole saved)
 unfolding Sized
 sized-end saved = tt
 
+pub suits-small : (k : ℕ) (here : Bool) (range : ℕ → Bool) (n : ℕ) → k < 5 → ((m : ℕ) → range m ≡ true → m < 128 ^ suc k) → suits here range n ≡ true → n < limit
+suits-small k true range n five small e =
+    let p : 128 ^ suc k ≤ 128 ^ 5 = pow-le-pow-right (omega arith) {i = suc k} {j = 5} (omega arith) in
+    omega (arith, small n e)
+suits-small k false range n five small e = omega (arith, eqb-true n 0 e)
+
 -- so they are a choice
 unfoldable pub choose : {A : Type 0} (l : Layout A) → Sized l → (ns : List ℕ) → allows l ns ≡ true → Choice l
 unfolding Choice Sized allows
-choose (place true range rest) b [] e = absurd (false≢true e)
-choose (place true range rest) b (n ∷ ns) e =
-    let w = and-true (range n) (allows (rest n) ns) e in
-    let p : 128 ^ suc (b .k) ≤ 128 ^ 5 = pow-le-pow-right (omega arith) {i = suc (b .k)} {j = 5} (omega (arith, b .five)) in
-    record { n = n; small = omega (arith, b .small n (w .0)); fits = w .0; more = choose (rest n) (b .more n) ns (w .1) }
-choose (place false range rest) b ns e = record { n = 0; small = omega arith; fits = refl; more = choose (rest 0) (b .more 0) ns e }
+choose (place here range rest) b [] e = absurd (false≢true e)
+choose (place here range rest) b (n ∷ ns) e =
+    let w = and-true (suits here range n) (allows (rest n) ns) e in
+    record { n = n; small = suits-small (b .k) here range n (b .five) (b .small) (w .0); fits = w .0; more = choose (rest n) (b .more n) ns (w .1) }
 choose (whole saved) b [] e = record {}
 choose (whole saved) b (n ∷ ns) e = absurd (false≢true e)
 
-pub choose-chosen : {A : Type 0} (l : Layout A) (b : Sized l) (ns : List ℕ) (e : allows l ns ≡ true) → chosen l (choose l b ns e) ≡ ns
-unfolding choose chosen Choice Sized allows
-choose-chosen (place true range rest) b [] e = absurd (false≢true e)
-choose-chosen (place true range rest) b (n ∷ ns) e =
-    ap (λ (x : List ℕ). n ∷ x) (choose-chosen (rest n) (b .more n) ns (and-true (range n) (allows (rest n) ns) e .1))
-choose-chosen (place false range rest) b ns e = choose-chosen (rest 0) (b .more 0) ns e
-choose-chosen (whole saved) b [] e = refl
-choose-chosen (whole saved) b (n ∷ ns) e = absurd (false≢true e)
+pub choose-picked : {A : Type 0} (l : Layout A) (b : Sized l) (ns : List ℕ) (e : allows l ns ≡ true) → picked l (choose l b ns e) ≡ ns
+unfolding choose picked Choice Sized allows
+choose-picked (place here range rest) b [] e = absurd (false≢true e)
+choose-picked (place here range rest) b (n ∷ ns) e =
+    ap (λ (x : List ℕ). n ∷ x) (choose-picked (rest n) (b .more n) ns (and-true (suits here range n) (allows (rest n) ns) e .1))
+choose-picked (whole saved) b [] e = refl
+choose-picked (whole saved) b (n ∷ ns) e = absurd (false≢true e)
 
 -- and a choice is allowed
-pub chosen-allowed : {A : Type 0} (l : Layout A) (k : Choice l) → allows l (chosen l k) ≡ true
-unfolding chosen Choice allows
-chosen-allowed (place true range rest) k = true-and (k .fits) (chosen-allowed (rest (k .n)) (k .more))
-chosen-allowed (place false range rest) k =
-    ap (λ (n : ℕ). allows (rest n) (chosen (rest (k .n)) (k .more))) (sym (eqb-true (k .n) 0 (k .fits))) ∙ chosen-allowed (rest (k .n)) (k .more)
-chosen-allowed (whole saved) k = refl
+pub picked-allowed : {A : Type 0} (l : Layout A) (k : Choice l) → allows l (picked l k) ≡ true
+unfolding picked Choice allows
+picked-allowed (place here range rest) k = true-and (k .fits) (picked-allowed (rest (k .n)) (k .more))
+picked-allowed (whole saved) k = refl
 
 -- how many bytes the places of a choice have at most, and so how long its record can be
 unfoldable pub most : {A : Type 0} (l : Layout A) → Sized l → Choice l → ℕ
@@ -119,7 +131,7 @@ most (place here range rest) b k = cond here (suc (b .k)) 0 + most (rest (k .n))
 most (whole saved) b k = 0
 
 pub no-longer : {A : Type 0} (l : Layout A) (b : Sized l) (k : Choice l) → length (bytesOfAll (chosen l k)) ≤ most l b k
-unfolding chosen Choice Sized most
+unfolding written picked Choice Sized most
 no-longer (place true range rest) b k =
     sizes-below (b .k) _ (k .n) _ (b .small (k .n) (k .fits)) (no-longer (rest (k .n)) (b .more (k .n)) (k .more))
 no-longer (place false range rest) b k = omega (arith, no-longer (rest (k .n)) (b .more (k .n)) (k .more))
@@ -149,7 +161,7 @@ module _ {A : Type 0} (range : ℕ → Bool) (s : List ℕ) (at : ℕ) (go : ℕ
 
 read-on : {A : Type 0} (l : Layout A) (k : Choice l) {s after : List ℕ} {at : ℕ} {x : Outcome A} → Ahead s at (chosen l k) after
     → ((end : ℕ) → Ahead s end [] after → readFrom (whole (stands l k)) s end ≡ x) → readFrom l s at ≡ x
-unfolding readFrom chosen stands Choice then
+unfolding readFrom written picked stands Choice then
 read-on (place true range rest) k {s} {after} {at} a end =
     on-read range s at (λ n next. readFrom (rest n) s next) (ahead-first a (k .small)) (k .fits) ∙ read-on (rest (k .n)) (k .more) (ahead-rest a) end
 read-on (place false range rest) k {s} {at = at} a end =
@@ -197,7 +209,7 @@ module _ {A : Type 0} (s : List ℕ) (bytes : (i : ℕ) → getD s i 0 < 256) (s
       (either (ltb at (length s)))
 
   pub taken : (l : Layout A) (at : ℕ) → readFrom l s at ≡ got saved → Taken l s at saved
-  unfolding readFrom chosen stands Choice then
+  unfolding readFrom written picked stands Choice then
   taken (place true range rest) at e =
       was-found range at (λ n next. readFrom (rest n) s next) (numberAt s at) refl e (λ n next h w e'.
       let t = taken (rest n) next e' in

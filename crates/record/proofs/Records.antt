@@ -18,7 +18,7 @@ use Rattle.number.specs.Layout.{Outcome, got, failed, readFrom}
 use Rattle.number.specs.Mapping.{mapped}
 use Rattle.number.proofs.Lists.{either}
 use Rattle.number.proofs.Chain.{Ahead}
-use Rattle.number.proofs.Layouts.{Choice, chosen, stands, allows, joined, allows-joined, Sized, sized, sized-end, choose, choose-chosen, chosen-allowed, most, no-longer, read-back, read-more, taken, Known, known, layout-exactly-when}
+use Rattle.number.proofs.Layouts.{Choice, picked, stands, written, chosen, allows, joined, allows-joined, Sized, sized, sized-end, choose, choose-picked, picked-allowed, most, no-longer, read-back, read-more, taken, Known, known, layout-exactly-when}
 use Rattle.number.proofs.Sizes.{bytes-last}
 use Rattle.number.proofs.Mapping.{unmapped-mapped, mapped-unmapped}
 use Rattle.clock.specs.Units.{micros, offsetUnits, phaseUnits, frequencyUnits, offsetUnitsPerMicro, phaseUnitsPerMicro}
@@ -114,6 +114,11 @@ unfolding joined recordLayout numbersIn inRange
 allowed version c flag last known flagged ranged update =
     allows-joined true recordLayout (numbersIn version c flag last) ∙ simp (unmapped-mapped, known, flagged, ranged, update, and-one)
 
+-- every version has all places
+all-written : (version : ℕ) (c : Clock) (flag last : ℕ) → written recordLayout (numbersIn version c flag last) ≡ numbersIn version c flag last
+unfolding written recordLayout numbersIn
+all-written version c flag last = refl
+
 -- what a record says, as a choice of numbers, which stands for the clock
 module _ {version : ℕ} {c : Clock} {flag last : ℕ} (w : Says version c flag last) where
   says-allowed : allows recordLayout (numbersIn version c flag last) ≡ true
@@ -124,7 +129,7 @@ module _ {version : ℕ} {c : Clock} {flag last : ℕ} (w : Says version c flag 
 
   choice-numbers : chosen recordLayout choice ≡ numbersIn version c flag last
   unfolding choice
-  choice-numbers = choose-chosen recordLayout sizes (numbersIn version c flag last) says-allowed
+  choice-numbers = ap (written recordLayout) (choose-picked recordLayout sizes (numbersIn version c flag last) says-allowed) ∙ all-written version c flag last
 
   choice-clock : stands recordLayout choice ≡ c
   unfolding choice choose stands Choice recordLayout numbersIn
@@ -149,9 +154,9 @@ module _ (k : Choice recordLayout) where
   unfolding Choice recordLayout
   last-of = k .more .more .more .more .more .more .more .more .more .n
 
-  numbers-chosen : chosen recordLayout k ≡ numbersIn version-of (stands recordLayout k) flag-of last-of
-  unfolding chosen stands Choice recordLayout numbersIn
-  numbers-chosen = simp mapped-unmapped
+  numbers-picked : picked recordLayout k ≡ numbersIn version-of (stands recordLayout k) flag-of last-of
+  unfolding picked stands Choice recordLayout numbersIn
+  numbers-picked = simp mapped-unmapped
 
   said : Says version-of (stands recordLayout k) flag-of last-of
   unfolding stands Choice recordLayout
@@ -161,7 +166,7 @@ module _ (k : Choice recordLayout) where
       let update = kept-sound version-of flag-of last-of (flag .fits) (flag .more .fits) in
       record {
         known = known;
-        sound = sym (allowed version-of (stands recordLayout k) flag-of last-of known (flag .fits) (flag .more .fits) update) ∙ ap (allows recordLayout) (sym numbers-chosen) ∙ chosen-allowed recordLayout k;
+        sound = sym (allowed version-of (stands recordLayout k) flag-of last-of known (flag .fits) (flag .more .fits) update) ∙ ap (allows recordLayout) (sym numbers-picked) ∙ picked-allowed recordLayout k;
         flagged = flag .fits;
         ranged = flag .more .fits;
         update = refl;
@@ -201,7 +206,7 @@ whole-chosen : (s : List ℕ) (k : Choice recordLayout) → s ≡ bytesOfAll (ch
 unfolding recordIn
 whole-chosen s k e =
     let c = stands recordLayout k in
-    let written : s ≡ recordIn (version-of k) c (flag-of k) (last-of k) = e ∙ ap bytesOfAll (numbers-chosen k) in
+    let written : s ≡ recordIn (version-of k) c (flag-of k) (last-of k) = e ∙ ap bytesOfAll (ap (written recordLayout) (numbers-picked k) ∙ all-written (version-of k) c (flag-of k) (last-of k)) in
     let first : versionOf s ≡ version-of k = ap versionOf written ∙ version-first (version-of k) c (flag-of k) (last-of k) (said k .known) in
     record { flag = flag-of k; last = last-of k; says = rw first (said k); written = rw first written }
 

@@ -58,11 +58,12 @@ fn main() {
     asleep::into_the_last_second(second.clock);
     asleep::too_many_at_once(second.clock);
     save_and_restore(second.clock);
+    restore_an_old_record();
 }
 
-// Saves a clock, then restores it from a damaged copy of its record and from the record itself. No record is longer than 45 bytes.
+// Saves a clock, then restores it from a damaged copy of its record and from the record itself. No record that is written is longer than 42 bytes.
 fn save_and_restore(c: Clock) {
-    let mut bytes = [0u8; 45];
+    let mut bytes = [0u8; 42];
     let saved = record::write(c, &mut bytes);
     let n = saved.length;
     show_refusal(b"saved", saved.refusal);
@@ -78,6 +79,14 @@ fn damage_and_restore(bytes: &mut [u8]) {
     }
     bytes[0] = 9;
     restore(b"the damaged copy", bytes);
+}
+
+// A record of version 1, which has the second of the last offset where version 2 has the rollovers since it. It is read; the clock that it
+// gives has no earlier offset, so that the next one pulls no frequency.
+fn restore_an_old_record() {
+    let bytes =
+        b"\x01\x82\x98\xec\xc5\x03\x32\x00\x00\x00\x80\x80\x80\x40\x00\x01\x80\x98\xec\xc5\x03\x80\xc8\xd0\x07\x80\xc8\xd0\x07\x00";
+    restore(b"a record of version 1", bytes);
 }
 
 // Any bytes may be handed in. Those that are no record get a refusal, and give the fresh clock.
