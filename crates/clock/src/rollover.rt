@@ -38,13 +38,11 @@ fn maxerror_grown(e: Micros) -> Micros
 
 // The interval since the earlier update, a rollover later; without one it stays 0.
 fn interval_grown(updated: u8, n: u32) -> u32
-    requires { ⌜ n ≤ longestInterval ⌝ }
+    requires { ⌜ (updated ≤ 1) × (n ≤ longestInterval) ⌝ }
     ensures { λ r. ⌜ r ≡ intervalGrown updated n ⌝ }
 {
-    if updated == 1 {
-        if n < MAX_INTERVAL {
-            return n + 1;
-        }
+    if n < updated as u32 * MAX_INTERVAL {
+        return n + 1;
     }
     n
 }

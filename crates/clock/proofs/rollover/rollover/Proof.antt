@@ -31,7 +31,8 @@ adjustment-for-requires c κs =
     )
 
 interval-grown-requires : tie.Need-interval-grown-requires
-interval-grown-requires c κs = known (c .before .before .before .before .before .before .before) .interval
+interval-grown-requires c κs =
+    let k = known (c .before .before .before .before .before .before .before) in (k .updated, k .interval)
 
 add-leap-step : tie.Need-add-leap-step
 add-leap-step c = search needs

@@ -1,6 +1,11 @@
--- `clock::state::last_fields_in_range`: the same.
+-- `clock::state::last_fields_in_range`: the same, and the one test of the interval is the table's two.
 use borrow.Author.Needs.{needs}
-use mathlib.Core.Path.{_≡_}
+use borrow.Author.Tests.{lt-leb, ne-eqb}
+use mathlib.Core.Path.{_≡_, refl, sym, _∙_}
+use mathlib.Core.Bool.{Bool, true, false, _&&_, _||_}
+use Prim.Native.Nat.{ℕ, zero, suc, _*_}
+use native.Mathlib.Omega.{arith}
+use lib.Dec.{leb, eqb}
 use mir.Facts.{toZ-ofZ}
 use mir.Syntax.{w32}
 use mir.Val.{SFits, toZ, ofZ}
@@ -13,8 +18,32 @@ adjustment-fits s = search needs
 adjustment-is : (s : tie.Start) → toZ w32 (ofZ w32 (s .args .c .adjustment .0)) ≡ s .args .c .adjustment .0
 adjustment-is s = toZ-ofZ (adjustment-fits s)
 
+kept : (b : Bool) → b ≡ b && true
+kept true = refl
+kept false = refl
+
+dropped : (b : Bool) → b && false ≡ false
+dropped true = refl
+dropped false = refl
+
+zero-only : (n : ℕ) → leb n 0 ≡ leb n 1024 && eqb n 0
+zero-only zero = refl
+zero-only (suc n) = lt-leb (suc n) 0 (omega arith) ∙ sym (simp (ne-eqb (suc n) 0 (λ h. omega arith)) (dropped (leb (suc n) 1024)))
+
+-- by the flag: 0, 1, and out of its range
+interval-test : (flag n : ℕ) → leb flag 1 && leb n (flag * 1024) ≡ leb flag 1 && leb n 1024 && (eqb flag 1 || eqb n 0)
+interval-test zero n = zero-only n
+interval-test (suc zero) n = kept (leb n 1024)
+interval-test (suc (suc flag)) n = simp (lt-leb (suc (suc flag)) 1 (omega arith))
+
+cast-result : tie.Need-cast-result
+cast-result c = search needs
+
+mul-result : tie.Need-mul-result
+mul-result c = search needs
+
 returns : tie.Need-returns
-returns c = simp adjustment-is
+returns c = simp (adjustment-is, interval-test)
 
 pub last-fields-in-range-spec : {M : Type 1} → statement M
-last-fields-in-range-spec = tie.close (tie.spec returns)
+last-fields-in-range-spec = tie.close (tie.spec cast-result mul-result returns)
