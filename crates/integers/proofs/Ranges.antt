@@ -1,10 +1,12 @@
 -- Ranges of integers, tested by `leZ` and `ltZ`, as bounds on both parts; and conjunctions of tests taken apart and put together.
-use mathlib.Core.Path.{_≡_, refl}
-use mathlib.Core.Bool.{Bool, true, false, _&&_, false≢true}
-use Prim.Native.Nat.{ℕ, _≤_, _<_}
+use mathlib.Core.Path.{_≡_, refl, sym, _∙_}
+use mathlib.Core.Bool.{Bool, true, false, _&&_, false≢true, and-false}
+use Prim.Native.Nat.{ℕ, zero, suc, _≤_, _<_}
 use native.Mathlib.Omega.{arith}
+use lib.Dec.{leb, eqb}
 use lib.IntN.{ℤ, pos, negℤ}
 use lib.Signed.{leZ, ltZ}
+use borrow.Author.Tests.{le-leb, lt-leb, ne-eqb}
 use Rattle.integers.proofs.Parts.{posPart, negPart, one-part, posPart-neg, negPart-neg, le-parts, parts-le, lt-parts, parts-lt}
 
 pub and-true : (a b : Bool) → a && b ≡ true → (a ≡ true) × (b ≡ true)
@@ -14,6 +16,11 @@ and-true false b e = absurd (false≢true e)
 pub true-and : {a b : Bool} → a ≡ true → b ≡ true → a && b ≡ true
 true-and {a = true} e f = f
 true-and {a = false} e f = absurd (false≢true e)
+
+-- 0, of the numbers up to m
+pub zero-only : (m n : ℕ) → leb n 0 ≡ leb n m && eqb n 0
+zero-only m zero = sym (simp (le-leb 0 m (omega arith)))
+zero-only m (suc n) = lt-leb (suc n) 0 (omega arith) ∙ sym (simp (ne-eqb (suc n) 0 (λ h. omega arith)) (and-false (leb (suc n) m)))
 
 module _ (l h : ℕ) (z : ℤ) where
   -- -l ≤ z ≤ h

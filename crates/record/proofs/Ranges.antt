@@ -1,14 +1,16 @@
 -- The ranges as the code tests them are those of the clock's table; and numbers in a range fit the types that hold them.
 use mathlib.Core.Path.{_≡_, refl, sym, _∙_, ap}
-use mathlib.Core.Bool.{Bool, true, false, cond, _&&_}
+use mathlib.Core.Bool.{Bool, true, false, cond, _&&_, and-false}
+use mathlib.Core.Bool.{and-true as and-one}
 use mathlib.Core.Logic.{⊎-elim}
-use Prim.Native.Nat.{ℕ, zero, suc, _*_, _/_, _%_, _≤_, _<_}
+use Prim.Native.Nat.{ℕ, suc, _*_, _/_, _%_, _≤_, _<_}
 use native.Mathlib.Omega.{arith}
 use lib.Dec.{leb, eqb, leb·suc-suc, lit<}
 use lib.IntN.{ℤ, pos, negsuc}
 use mir.Syntax.{w32, w64}
 use mir.Val.{SFits}
-use borrow.Author.Tests.{leb-true, leb-false, le-leb, lt-leb, eqb-true, eqb-false, ne-eqb}
+use borrow.Author.Tests.{leb-true, leb-false, le-leb, lt-leb, eqb-true, eqb-false}
+use Rattle.integers.proofs.Ranges.{zero-only}
 use Rattle.number.specs.Mapping.{unmapped}
 use Rattle.number.proofs.Lists.{either}
 use Rattle.number.specs.Layout.{mappedRange}
@@ -31,14 +33,6 @@ same-test a b c d f g =
     t ∙ sym (lt-leb c d (omega arith)))
     (either (leb a b))
 
-kept : (b : Bool) → b ≡ b && true
-kept true = refl
-kept false = refl
-
-dropped : (b : Bool) → b && false ≡ false
-dropped true = refl
-dropped false = refl
-
 -- a range that is as wide below 0 as above it, tested on the mapped number
 balanced : (k n : ℕ) → upTo (2 * suc k) n ≡ betweenZ (negsuc k) (pos (suc k)) (unmapped n)
 unfolding unmapped
@@ -49,7 +43,7 @@ balanced k n =
     simp t (same-test n (2 * suc k) (n / 2) (suc k) (λ h. omega arith) (λ h. omega arith)))
     (λ (t : eqb (n % 2) 0 ≡ false).
     let odd = eqb-false (n % 2) 0 t in
-    simp t (same-test n (2 * suc k) (n / 2) k (λ h. omega arith) (λ h. omega arith) ∙ kept (leb (n / 2) k)))
+    simp t (same-test n (2 * suc k) (n / 2) k (λ h. omega arith) (λ h. omega arith) ∙ sym (and-one (leb (n / 2) k))))
     (either (eqb (n % 2) 0))
 
 -- one that is less wide below 0: its least number is tested too
@@ -59,13 +53,13 @@ lopsided k m n l =
     ⊎-elim
     (λ (t : eqb (n % 2) 0 ≡ true).
     let even = eqb-true (n % 2) 0 t in
-    simp t (sym (kept (leb n (2 * m))) ∙ same-test n (2 * m) (n / 2) m (λ h. omega arith) (λ h. omega arith)))
+    simp t (and-one (leb n (2 * m)) ∙ same-test n (2 * m) (n / 2) m (λ h. omega arith) (λ h. omega arith)))
     (λ (t : eqb (n % 2) 0 ≡ false). simp t (by-least (leb (n / 2) k) refl))
     (either (eqb (n % 2) 0))
   where
     by-least : (b : Bool) → leb (n / 2) k ≡ b → leb n (2 * m) && b ≡ b && true
     by-least true e = ap (λ (x : Bool). x && true) (le-leb n (2 * m) (omega (arith, leb-true (n / 2) k e)))
-    by-least false e = dropped (leb n (2 * m))
+    by-least false e = and-false (leb n (2 * m))
 
 pub phase-test : (n : ℕ) → upTo mappedPhase n ≡ mappedRange phaseRange n
 phase-test n = balanced 268435454 n ∙ phase-bounds (unmapped n)
@@ -80,13 +74,9 @@ pub adjustment-test : (n : ℕ) → fromTo (negsuc 168819711) mappedAdjustment n
 adjustment-test n = lopsided 168819711 303037440 n (lit< tt)
 
 -- what follows the flag of the earlier update: up to m with the flag, and else 0
-zero-only : (m n : ℕ) → leb n 0 ≡ leb n m && eqb n 0
-zero-only m zero = sym (simp (le-leb 0 m (omega arith)))
-zero-only m (suc n) = lt-leb (suc n) 0 (omega arith) ∙ sym (simp (ne-eqb (suc n) 0 (λ h. omega arith)) (dropped (leb (suc n) m)))
-
 by-flag : (m flag n : ℕ) → upTo (cond (eqb flag 1) m 0) n ≡ leb n m && zeroUnlessFlag flag n
 by-flag m flag n =
-    ⊎-elim (λ (t : eqb flag 1 ≡ true). simp t (kept (leb n m))) (λ (t : eqb flag 1 ≡ false). simp t (zero-only m n)) (either (eqb flag 1))
+    ⊎-elim (λ (t : eqb flag 1 ≡ true). simp t (sym (and-one (leb n m)))) (λ (t : eqb flag 1 ≡ false). simp t (zero-only m n)) (either (eqb flag 1))
 
 pub last-test : (version flag n : ℕ) → upTo (lastMost version flag) n ≡ lastRange version flag n
 last-test version flag n =

@@ -1,14 +1,16 @@
 -- `clock::state::last_fields_in_range`: the same, and the one test of the interval is the table's two.
 use borrow.Author.Needs.{needs}
-use borrow.Author.Tests.{lt-leb, ne-eqb}
-use mathlib.Core.Path.{_≡_, refl, sym, _∙_}
-use mathlib.Core.Bool.{Bool, true, false, _&&_, _||_}
+use borrow.Author.Tests.{lt-leb}
+use mathlib.Core.Path.{_≡_, sym}
+use mathlib.Core.Bool.{_&&_, _||_}
+use mathlib.Core.Bool.{and-true as and-one}
 use Prim.Native.Nat.{ℕ, zero, suc, _*_}
 use native.Mathlib.Omega.{arith}
 use lib.Dec.{leb, eqb}
 use mir.Facts.{toZ-ofZ}
 use mir.Syntax.{w32}
 use mir.Val.{SFits, toZ, ofZ}
+use Rattle.integers.proofs.Ranges.{zero-only}
 use Rattle.clock.proofs.state.last_fields_in_range.Statement.{statement}
 use Rattle.clock.proofs.state.last_fields_in_range.Tie as tie
 
@@ -18,22 +20,10 @@ adjustment-fits s = search needs
 adjustment-is : (s : tie.Start) → toZ w32 (ofZ w32 (s .args .c .adjustment .0)) ≡ s .args .c .adjustment .0
 adjustment-is s = toZ-ofZ (adjustment-fits s)
 
-kept : (b : Bool) → b ≡ b && true
-kept true = refl
-kept false = refl
-
-dropped : (b : Bool) → b && false ≡ false
-dropped true = refl
-dropped false = refl
-
-zero-only : (n : ℕ) → leb n 0 ≡ leb n 1024 && eqb n 0
-zero-only zero = refl
-zero-only (suc n) = lt-leb (suc n) 0 (omega arith) ∙ sym (simp (ne-eqb (suc n) 0 (λ h. omega arith)) (dropped (leb (suc n) 1024)))
-
 -- by the flag: 0, 1, and out of its range
 interval-test : (flag n : ℕ) → leb flag 1 && leb n (flag * 1024) ≡ leb flag 1 && leb n 1024 && (eqb flag 1 || eqb n 0)
-interval-test zero n = zero-only n
-interval-test (suc zero) n = kept (leb n 1024)
+interval-test zero n = zero-only 1024 n
+interval-test (suc zero) n = sym (and-one (leb n 1024))
 interval-test (suc (suc flag)) n = simp (lt-leb (suc (suc flag)) 1 (omega arith))
 
 cast-result : tie.Need-cast-result
