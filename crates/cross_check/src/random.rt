@@ -1,7 +1,6 @@
 // Pseudo-random and edge values. Every value follows from a case's number and a number for what is drawn, so that a case can be run again
 // by its number. Signed values are drawn as the numbers that they are mapped to, so that both ends of a range are met.
 use crate::rules::State;
-use crate::signed::least;
 use crate::signed::minus;
 use crate::signed::pick;
 use crate::signed::plus;
