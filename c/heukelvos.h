@@ -100,7 +100,7 @@ struct heukelvos_clock {
 	int32_t adjustment; /* what each tick adds to the phase; phase units, HEUKELVOS_LEAST_ADJUSTMENT to HEUKELVOS_MOST_ADJUSTMENT */
 	uint8_t constant;   /* time constant of the loop, as a power of two: 0 to 4 */
 	uint8_t updated;    /* 1 if an offset was accepted since the last setting, else 0 */
-	uint32_t interval;  /* rollovers since that offset, a leap's too, 0 to HEUKELVOS_MAX_INTERVAL; 0 if there is none */
+	uint32_t interval;  /* rollovers since that offset, with or without a leap, 0 to HEUKELVOS_MAX_INTERVAL; 0 if there is none */
 	uint32_t maxerror;  /* 0 to 16,000,000 us */
 	uint32_t esterror;  /* 0 to 16,000,000 us */
 	uint8_t status;     /* enum heukelvos_status */

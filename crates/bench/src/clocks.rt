@@ -69,7 +69,7 @@ fn mix_outcome(sum: u64, o: Outcome) -> u64 {
     mix(mix(sum, o.refusal as u64), o.clock.status as u64)
 }
 
-// The same clock 64 seconds later: so the interval that a request takes moves. It stays below 1,024.
+// The same clock 64 rollovers later: so the interval that a request takes moves. It stays below 1,024.
 fn later(c: Clock) -> Clock {
     Clock {
         seconds: ((c.seconds as u64 + 64) % 4294967296) as u32,

@@ -5,5 +5,6 @@ pub mod Exact
 pub mod Moved
 pub mod Forward
 pub mod Theorem
+pub mod Interval
 pub mod Table
 pub mod ShutOut

@@ -1,6 +1,6 @@
--- "Marked cases (proved together)", the two edges at the last second, and the interval of document 02: a table with a row for each, and what it means that a row
--- holds. A row starts at a fresh clock, but for the fields that it names. Where it says "rollover", ticks are made up to and with the
--- next that rolls over.
+-- "Marked cases (proved together)", the two edges at the last second, and the interval of document 02: a table with a row for each, and what
+-- it means that a row holds. A row starts at a fresh clock, but for the fields that it names. Where it says "rollover", ticks are made up to
+-- and with the next that rolls over.
 use Prim.Native.Nat.{ℕ, zero, suc}
 use mathlib.Core.Path.{_≡_}
 use mathlib.Core.Bool.{Bool, true, _&&_, cond}
@@ -201,12 +201,12 @@ d then vs = record { doing = d; then = vs }
 abbrev pub row : List Start → List Stage → Case
 row f gs = record { from = f; stages = gs }
 
--- a request that selects an offset (us), and nothing else
-abbrev pub asks : ℤ → Call
-asks o =
+-- a request of this mode, its offset in us and all else 0
+abbrev pub requests : ℕ → ℤ → Call
+requests mode o =
     call.Request
     (record {
-      mode = modeBits .offset;
+      mode = mode;
       offset = record { 0 = o };
       frequency = record { 0 = pos 0 };
       maxerror = record { 0 = 0 };
@@ -215,12 +215,20 @@ asks o =
       constant = 0;
     })
 
+-- one that selects an offset (us), and nothing else
+abbrev pub asks : ℤ → Call
+asks o = requests (modeBits .offset) o
+
+-- one that selects nothing
+abbrev pub asksNothing : Call
+asksNothing = requests 0 (pos 0)
+
 abbrev pub set : ℕ → ℕ → Call
 set s u = call.Setting s (record { 0 = u })
 
 -- The table of document 01, row by row ("frequency unchanged" at two frequencies; document 02: "the marked interval 5,000 becomes 1,024"),
--- after it the two edges, and then document 02's interval: across an inserted and a deleted second, up to its limit, set back by an offset, and
--- none without one.
+-- after it the two edges, and then document 02's interval: across an inserted and a deleted second, up to its limit, set back by an accepted
+-- offset alone, and none without one.
 abbrev pub markedCases : List Case
 markedCases =
     row []
@@ -267,7 +275,9 @@ markedCases =
     (rollover then (updated is 0 ∷ interval is 0 ∷ [])
     ∷ callOf (asks (pos 1000)) then (refusal 0 ∷ updated is 1 ∷ interval is 0 ∷ [])
     ∷ rollover then (updated is 1 ∷ interval is 1 ∷ [])
-    ∷ callOf (asks (pos 1000)) then (refusal 0 ∷ interval is 0 ∷ [])
+    ∷ callOf (asks (pos 128000)) then (refusal 5 ∷ updated is 1 ∷ interval is 1 ∷ [])
+    ∷ callOf asksNothing then (refusal 0 ∷ updated is 1 ∷ interval is 1 ∷ [])
+    ∷ callOf (asks (pos 1000)) then (refusal 0 ∷ updated is 1 ∷ interval is 0 ∷ [])
     ∷ rollover then (interval is 1 ∷ [])
     ∷ callOf (set 0 0) then (refusal 0 ∷ updated is 0 ∷ interval is 0 ∷ []) ∷ [])
     ∷ []

@@ -36,7 +36,7 @@ fn maxerror_grown(e: Micros) -> Micros
     }
 }
 
-// The interval since the earlier update, a rollover later; without one it stays 0.
+// The interval since the earlier update, a rollover later. Without one its limit is 0, and it stays 0.
 fn interval_grown(updated: u8, n: u32) -> u32
     requires { ⌜ (updated ≤ 1) × (n ≤ longestInterval) ⌝ }
     ensures { λ r. ⌜ r ≡ intervalGrown updated n ⌝ }

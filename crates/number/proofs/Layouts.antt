@@ -268,6 +268,7 @@ field-exactly-when range s at r =
     record {
       only = fails-only range s at r (numberAt s at) refl;
       unread = λ e. ap (judgedBy range) e;
+      shape = refused-only s at;
       outside = λ o. ap (judgedBy range) (o .read) ∙ simp (o .out);
     }
 

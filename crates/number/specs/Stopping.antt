@@ -31,10 +31,11 @@ pub record Outside (range : ℕ → Bool) (s : List ℕ) (at : ℕ) : Type 0 whe
   pub read : numberAt s at ≡ number value next
   pub out : range value ≡ false
 
--- a field fails to read exactly when its number does, with 10 or 11, or when it is out of range, with 12
+-- a field fails to read exactly when its number does, with that number's 10 or 11, or when it is out of range, with 12
 pub record FailsWhen (range : ℕ → Bool) (s : List ℕ) (at r : ℕ) : Type 0 where
   pub only : fieldAt range s at ≡ refused r → (numberAt s at ≡ refused r) ⊎ (Outside range s at × (r ≡ 12))
   pub unread : numberAt s at ≡ refused r → fieldAt range s at ≡ refused r
+  pub shape : numberAt s at ≡ refused r → (r ≡ 10) ⊎ (r ≡ 11)
   pub outside : Outside range s at → fieldAt range s at ≡ refused 12
 
 abbrev pub FieldExactlyWhen : Type 0

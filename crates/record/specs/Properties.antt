@@ -49,7 +49,7 @@ Bytes s = (i : ℕ) → getD s i 0 < 256
 abbrev pub versionOf : List ℕ → ℕ
 versionOf s = getD s 0 0
 
--- "one written form": bytes that are accepted are a record that says the clock which is read, and no other bytes are
+-- "one written form": accepted bytes are a record that says the clock which is read (that every such record is accepted is `ReadsBack`)
 pub record Whole (s : List ℕ) (c : Clock) : Type 0 where
   pub flag : ℕ
   pub last : ℕ

@@ -64,7 +64,7 @@ fn refused(d: Field) -> Restored
     }
 }
 
-// The largest number behind the flag of an earlier update: its second in version 1, the rollovers since it later; 0 where there is none.
+// The largest number behind the flag of an earlier update: its second in version 1, the rollovers since it in version 2; 0 where there is none.
 fn last_most(version: u32, flag: u32) -> u32
     ensures { λ r. ⌜ r ≡ lastMost version flag ⌝ }
 {

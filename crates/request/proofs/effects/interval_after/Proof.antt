@@ -1,6 +1,7 @@
 -- `request::effects::interval_after`: 0 where an offset is selected, else the one before.
 use borrow.Author.Needs.{needs}
 use mathlib.Core.Path.{sym, _∙_}
+use native.Mathlib.Omega.{arith}
 use Rattle.request.proofs.effects.interval_after.Statement.{statement}
 use Rattle.request.proofs.effects.interval_after.Tie as tie
 
@@ -10,7 +11,7 @@ is-set-requires c κs = search needs
 returns : tie.Need-returns
 returns c =
     let t = sym (c .before .is-set .ensures) ∙ c .if1 .taken in
-    simp t
+    simp t (omega arith)
 
 returns-2 : tie.Need-returns-2
 returns-2 c =
