@@ -1,7 +1,7 @@
 -- A jump goes on by single ticks: what a tick makes of the clock after a jump of j ticks, a jump of j + 1 makes of the clock as it was.
 use mathlib.Core.Path.{_≡_, sym, ap}
 use Prim.Native.Nat.{ℕ, suc, _+_, _-_, _*_, _≤_, _<_}
-use native.Mathlib.Nat.{mul-le-mul-left}
+use native.Mathlib.Nat.{mul-le-mul-left, mul-le-mul-right}
 use native.Mathlib.Omega.{arith}
 use lib.Dec.{T}
 use lib.IntN.{ℤ, pos, _+ℤ_, _*ℤ_, sucℤ-*ℤ, +ℤ-assoc}
@@ -12,8 +12,10 @@ use mir.Facts.{toZ-pos, toZ-ofZ}
 use Rattle.integers.proofs.Parts.{posPart, negPart, parts, one-part, eq-parts, sfits-parts, abs-parts, nonNeg-parts, posPart-add, negPart-add, posPart-quot, negPart-quot, times-posPart, times-negPart}
 use Rattle.integers.proofs.Carrying.{Way, carry-step, rest-step, steps-way}
 use Rattle.clock.specs.Units.{micros}
+use Rattle.clock.specs.Device.{deviceOf}
 use Rattle.clock.specs.Tick.{carry, phaseLeft, microsGrown, moved}
-use Rattle.clock.specs.Inner.{Within, advanceOf, phaseSums, carries, phaseLater, microsLater, jumpOf}
+use Rattle.clock.specs.Inner.{mostCarried, mostOfATick, Within, advanceOf, phaseSums, carries, phaseLater, microsLater, jumpOf}
+use Rattle.clock.specs.declared.device.Device.{Device}
 use Rattle.clock.specs.declared.state.Clock.{Clock}
 use Rattle.clock.specs.declared.timer.Advance.{Advance}
 use Rattle.clock.proofs.Ok.{Ok}
@@ -30,23 +32,39 @@ stepped c = moved c (advanceOf c .micros) (advanceOf c .phase)
 -- ---- the numbers of a jump
 
 module _ (c : Clock) (k : Ok c) (j : ℕ) where
-  pub sums-parts : (posPart (phaseSums j c) ≤ 268435455 + 303037440 * j) × (negPart (phaseSums j c) ≤ 268435455 + 168819712 * j)
-  sums-parts = simp parts (omega (arith, mul-le-mul-left j (k .adjustment .0), mul-le-mul-left j (k .adjustment .1)))
+  abbrev device : Device
+  device = deviceOf (c .kind)
 
-  -- a tick carries from -1 to 2 whole microseconds
-  pub carries-parts : (posPart (carries j c) ≤ 2 * j) × (negPart (carries j c) ≤ j)
-  carries-parts = simp (posPart-quot, negPart-quot) (omega (arith, sums-parts))
+  pub sums-parts : (posPart (phaseSums j c) ≤ 268435455 + posPart (device .most .0) * j) × (negPart (phaseSums j c) ≤ 268435455 + 168819712 * j)
+  sums-parts =
+      let l : negPart (c .adjustment .0) ≤ 168819712 = omega arith in
+      simp parts (omega (arith, mul-le-mul-left j (k .adjustment .size .0), mul-le-mul-left j l))
+
+  -- a tick carries from -1 us to the most of its device
+  pub carries-parts : (posPart (carries j c) ≤ mostCarried device * j) × (posPart (carries j c) ≤ 2 * j) × (negPart (carries j c) ≤ j)
+  carries-parts =
+      let m : posPart (device .most .0) ≤ 268435456 * mostCarried device = omega (arith, k .device .carried) in
+      let u = mul-le-mul-right j m in
+      let v = mul-le-mul-right j (k .device .carried .1) in
+      simp (posPart-quot, negPart-quot) (omega (arith, sums-parts, u, v))
 
   pub left-parts : (posPart (phaseLater j c) < 268435456) × (negPart (phaseLater j c) < 268435456)
   left-parts = simp parts (omega (arith, one-part (phaseSums j c)))
 
   abbrev pub later : ℤ
-  later = pos (c .micros .0 + 3906 * j) +ℤ carries j c
+  later = pos (c .micros .0 + deviceOf (c .kind) .tick .0 * j) +ℤ carries j c
 
-  pub later-parts : (posPart later + negPart (carries j c) ≡ c .micros .0 + 3906 * j + posPart (carries j c)) × (negPart later ≡ 0)
-  later-parts = omega (arith, posPart-add (pos (c .micros .0 + 3906 * j)) (carries j c), negPart-add (pos (c .micros .0 + 3906 * j)) (carries j c), carries-parts)
+  pub later-parts : (posPart later + negPart (carries j c) ≡ c .micros .0 + deviceOf (c .kind) .tick .0 * j + posPart (carries j c)) × (negPart later ≡ 0)
+  later-parts =
+      omega (
+        arith,
+        posPart-add (pos (c .micros .0 + deviceOf (c .kind) .tick .0 * j)) (carries j c),
+        negPart-add (pos (c .micros .0 + deviceOf (c .kind) .tick .0 * j)) (carries j c),
+        carries-parts,
+        mul-le-mul-right j (k .device .tick .0),
+      )
 
-  pub later-eq : microsLater j c + negPart (carries j c) ≡ c .micros .0 + 3906 * j + posPart (carries j c)
+  pub later-eq : microsLater j c + negPart (carries j c) ≡ c .micros .0 + deviceOf (c .kind) .tick .0 * j + posPart (carries j c)
   later-eq = omega (arith, abs-parts later, later-parts)
 
   pub jumped-ok : Within j c → Ok (jumped j c)
@@ -74,23 +92,39 @@ module _ (c : Clock) (k : Ok c) where
   read-wide-adjustment = toZ-ofZ wide-adjustment
 
 module _ (c : Clock) (k : Ok c) (j : ℕ) (w : Within (j - 1) c) where
-  few : j ≤ 256
-  few = omega (arith, w)
+  few : j ≤ 1024
+  few = omega (arith, w, mul-le-mul-right (j - 1) (k .device .tick .0))
 
   pub read-ticks : toZ w64 j ≡ pos j
   read-ticks = toZ-pos w64 (omega (arith, few))
 
-  pub read-micros : toZ w64 (c .micros .0 + 3906 * j) ≡ pos (c .micros .0 + 3906 * j)
-  read-micros = toZ-pos w64 (omega (arith, few))
+  -- the ticks' own microseconds
+  passed : deviceOf (c .kind) .tick .0 * j ≤ 3999744
+  passed = omega (arith, few, mul-le-mul-right j (k .device .tick .1))
+
+  pub fits-passed : Fits w64 (deviceOf (c .kind) .tick .0 * j)
+  fits-passed = record { fits = omega (arith, passed) }
+
+  pub fits-together : Fits w64 (c .micros .0 + deviceOf (c .kind) .tick .0 * j)
+  fits-together = record { fits = omega (arith, passed) }
+
+  pub fits-counted : SFits w64 (pos (c .micros .0 + deviceOf (c .kind) .tick .0 * j))
+  fits-counted = record { sfits = omega (arith, passed) }
+
+  pub read-micros : toZ w64 (c .micros .0 + deviceOf (c .kind) .tick .0 * j) ≡ pos (c .micros .0 + deviceOf (c .kind) .tick .0 * j)
+  read-micros = toZ-pos w64 (omega (arith, passed))
+
+  most-of-all : posPart (deviceOf (c .kind) .most .0) * j ≤ 310310338560
+  most-of-all = omega (arith, few, mul-le-mul-right j (k .device .sizes .0))
 
   pub fits-steps : SFits w64 (pos j *ℤ c .adjustment .0)
-  fits-steps = sfits-parts (pos j *ℤ c .adjustment .0) (simp parts (omega (arith, few, mul-le-mul-left j (k .adjustment .0), mul-le-mul-left j (k .adjustment .1))))
+  fits-steps = sfits-parts (pos j *ℤ c .adjustment .0) (simp parts (omega (arith, few, most-of-all, mul-le-mul-left j (k .adjustment .size .0), mul-le-mul-left j (k .adjustment .size .1), mul-le-mul-left j (k .device .sizes .1))))
 
   pub read-steps : toZ w64 (ofZ w64 (pos j *ℤ c .adjustment .0)) ≡ pos j *ℤ c .adjustment .0
   read-steps = toZ-ofZ fits-steps
 
   pub fits-sums : SFits w64 (phaseSums j c)
-  fits-sums = sfits-parts (phaseSums j c) (omega (arith, few, sums-parts c k j))
+  fits-sums = sfits-parts (phaseSums j c) (omega (arith, few, most-of-all, sums-parts c k j))
 
   pub read-sums : toZ w64 (ofZ w64 (phaseSums j c)) ≡ phaseSums j c
   read-sums = toZ-ofZ fits-sums
@@ -119,8 +153,11 @@ module _ (c : Clock) (k : Ok c) (j : ℕ) (w : Within (j - 1) c) where
   pub read-phase-left : toZ w32 (ofZ w32 (phaseLater j c)) ≡ phaseLater j c
   read-phase-left = toZ-ofZ fits-phase-left
 
+  -- the last of the ticks adds no more than one can
   later-most : microsLater j c ≤ 1003907
-  later-most = omega (arith, w, later-eq c k j, carries-parts c k j)
+  later-most =
+      let h : j ≤ j - 1 + 1 = omega arith in
+      omega (arith, w, later-eq c k j, carries-parts c k j, mul-le-mul-left (mostOfATick (deviceOf (c .kind))) h)
 
   pub fits-later : SFits w64 (later c k j)
   fits-later = sfits-parts (later c k j) (omega (arith, later-parts c k j, abs-parts (later c k j), later-most))

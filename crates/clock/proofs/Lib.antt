@@ -1,3 +1,4 @@
+pub mod DeviceLaws
 pub mod Ok
 pub mod RollLaws
 pub mod TickLaws

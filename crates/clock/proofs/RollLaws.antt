@@ -1,9 +1,9 @@
 -- A rollover: its numbers fit 32 bits, the leap step by its three cases, and the clock stays in its ranges.
 use mathlib.Core.Path.{_≡_, refl, _∙_, ap}
 use mathlib.Core.Bool.{Bool, true, false, cond, _||_}
-use Prim.Native.Nat.{ℕ, _+_, _/_, _%_, _≤_, _<_}
+use Prim.Native.Nat.{ℕ, _+_, _*_, _/_, _%_, _≤_, _<_}
 use native.Mathlib.Omega.{arith}
-use native.Mathlib.Nat.{lt-of-le-of-lt, div-le-self, mul-div-le, mul-le-mul-right}
+use native.Mathlib.Nat.{lt-of-le-of-lt, div-le-self, mul-div-le, mul-le-mul-left, mul-le-mul-right, div-le-of-le-mul}
 use borrow.Author.Needs.{needs}
 use lib.Pow.{pow-mono, pow-pos}
 use lib.IntN.{ℤ, pos, _+ℤ_, _*ℤ_}
@@ -12,11 +12,14 @@ use lib.Dec.{eqb, lit<}
 use borrow.Author.Tests.{eqb-true, eq-eqb}
 use mir.Syntax.{w32}
 use mir.Val.{SFits}
-use Rattle.integers.proofs.Parts.{posPart, negPart, parts, one-part, sfits-parts}
+use Rattle.integers.proofs.Parts.{posPart, negPart, parts, one-part, posPart-add, negPart-add, sfits-parts}
+use Rattle.integers.proofs.Linear.{self, add}
 use Rattle.integers.proofs.Ranges.{and-true}
+use Rattle.clock.specs.Device.{deviceOf}
 use Rattle.clock.specs.Rollover.{shareDivisor, share, offsetLeft, intervalGrown, adjustmentFor, inserts, deletes, leapSeconds, leapStatus, rolledOver}
 use Rattle.clock.specs.declared.state.Clock.{Clock}
-use Rattle.clock.proofs.Ok.{Ok}
+use Rattle.clock.proofs.DeviceLaws.{reach, laws}
+use Rattle.clock.proofs.Ok.{Adjusted, adjusted, Ok}
 
 -- n / 2^(10 + k) is at most n / 1024
 div-least : (n k : ℕ) → n / shareDivisor k ≤ n / 1024
@@ -28,29 +31,50 @@ div-least n k = omega (arith, mul-div-le n (shareDivisor k), mul-le-mul-right (n
 pub divisor-pos : (k : ℕ) → 0 < shareDivisor k
 divisor-pos k = pow-pos (10 + k)
 
-pub adjustment-parts : (s f : ℤ) → (posPart s ≤ 2047984) × (negPart s ≤ 2047984) → (posPart f ≤ 1677721600) × (negPart f ≤ 1677721600)
-    → (posPart (adjustmentFor s f) ≤ 303037440) × (negPart (adjustmentFor s f) ≤ 168819712)
-adjustment-parts s f hs hf = simp parts (omega arith)
-
 -- the steps by which the adjustment is worked out fit
-pub record Adjusts (s f : ℤ) : Type 0 where
+pub record Adjusts (kind : ℕ) (s f : ℤ) : Type 0 where
   pub share : SFits w32 s
   pub frequency : SFits w32 f
-  pub scaled : SFits w32 (pos 64 *ℤ s)
-  pub divided : SFits w32 (quotZ f (pos 16))
-  pub both : SFits w32 (pos 64 *ℤ s +ℤ quotZ f (pos 16))
-  pub adjusted : SFits w32 (adjustmentFor s f)
+  pub scaled : SFits w32 (pos (deviceOf kind .scale) *ℤ s)
+  pub divided : SFits w32 (quotZ f (pos (deviceOf kind .divisor)))
+  pub both : SFits w32 (pos (deviceOf kind .scale) *ℤ s +ℤ quotZ f (pos (deviceOf kind .divisor)))
+  pub adjusted : SFits w32 (adjustmentFor (deviceOf kind) s f)
 
-pub adjusts : (s f : ℤ) → (posPart s ≤ 2047984) × (negPart s ≤ 2047984) → (posPart f ≤ 1677721600) × (negPart f ≤ 1677721600) → Adjusts s f
-adjusts s f hs hf =
-    record {
-      share = sfits-parts s (omega arith);
-      frequency = sfits-parts f (omega arith);
-      scaled = sfits-parts (pos 64 *ℤ s) (simp parts (omega arith));
-      divided = sfits-parts (quotZ f (pos 16)) (simp parts (omega arith));
-      both = sfits-parts (pos 64 *ℤ s +ℤ quotZ f (pos 16)) (simp parts (omega arith));
-      adjusted = sfits-parts (adjustmentFor s f) (omega (arith, adjustment-parts s f hs hf));
-    }
+module _ (kind : ℕ) (s f : ℤ) (hs : (posPart s ≤ 2047984) × (negPart s ≤ 2047984)) (hf : (posPart f ≤ 1677721600) × (negPart f ≤ 1677721600)) where
+  abbrev scaled : ℤ
+  scaled = pos (deviceOf kind .scale) *ℤ s
+
+  abbrev divided : ℤ
+  divided = quotZ f (pos (deviceOf kind .divisor))
+
+  scaled-parts : (posPart scaled ≤ deviceOf kind .scale * 2047984) × (negPart scaled ≤ deviceOf kind .scale * 2047984)
+  scaled-parts = simp parts (mul-le-mul-left (deviceOf kind .scale) (hs .0), mul-le-mul-left (deviceOf kind .scale) (hs .1))
+
+  -- a part of the frequency in phase units a tick
+  divided-part : (n : ℕ) → n ≤ 1677721600 → n / deviceOf kind .divisor ≤ 1677721600 / deviceOf kind .divisor
+  divided-part n h = div-le-of-le-mul (deviceOf kind .divisor) (omega (arith, laws kind .frequency))
+
+  divided-parts : (posPart divided ≤ 1677721600 / deviceOf kind .divisor) × (negPart divided ≤ 1677721600 / deviceOf kind .divisor)
+  divided-parts = simp parts (divided-part (posPart f) (hf .0), divided-part (negPart f) (hf .1))
+
+  both-parts : (posPart (scaled +ℤ divided) ≤ reach (deviceOf kind)) × (negPart (scaled +ℤ divided) ≤ reach (deviceOf kind))
+  both-parts = rw (posPart-add scaled divided, negPart-add scaled divided) (omega (arith, scaled-parts, divided-parts))
+
+  pub adjustment-ok : Adjusted (deviceOf kind) (adjustmentFor (deviceOf kind) s f)
+  adjustment-ok =
+      let e = add (self (scaled +ℤ divided)) (self (deviceOf kind .base .0)) in
+      adjusted kind (adjustmentFor (deviceOf kind) s f) (omega (arith, e .eq, both-parts, laws kind))
+
+  pub adjusts : Adjusts kind s f
+  adjusts =
+      record {
+        share = sfits-parts s (omega arith);
+        frequency = sfits-parts f (omega arith);
+        scaled = sfits-parts scaled (omega (arith, scaled-parts, laws kind));
+        divided = sfits-parts divided (omega (arith, divided-parts, laws kind));
+        both = sfits-parts (scaled +ℤ divided) (omega (arith, both-parts, laws kind));
+        adjusted = sfits-parts (adjustmentFor (deviceOf kind) s f) (omega (arith, adjustment-ok, laws kind));
+      }
 
 module _ (c : Clock) (k : Ok c) where
   abbrev left : ℤ
@@ -131,6 +155,6 @@ rolled-ok c k h =
       interval-most (c .updated) (c .interval) (eqb (c .updated) 1) refl (k .interval),
       interval-none (c .updated) (c .interval) (eqb (c .updated) 1) refl (k .interval) (k .update),
       rest-parts c k,
-      adjustment-parts (share c) (c .frequency .0) (share-parts c k) (k .frequency),
+      adjustment-ok (c .kind) (share c) (c .frequency .0) (share-parts c k) (k .frequency),
       leap-status (c .status) (c .seconds + 1) (k .status) (leapCase (c .status) (c .seconds + 1)),
     )

@@ -13,7 +13,7 @@ use Rattle.clock.specs.Setting.{setTo, settable, settingRefusal, setting
 use Rattle.clock.specs.declared.state.Clock.{Clock}
 use Rattle.clock.specs.declared.units.AskedMicros.{AskedMicros}
 use Rattle.clock.proofs.Ok.{Ok, ok}
-use Rattle.clock.proofs.RollLaws.{adjustment-parts}
+use Rattle.clock.proofs.RollLaws.{adjustment-ok}
 
 pub data SettingCase (c : Clock) (s : ℕ) (u : AskedMicros) : Type 0 where
   refused : (n : ℕ) → settingOf c s u ≡ record { refusal = n; clock = c } → 0 < n → SettingCase c s u
@@ -22,7 +22,7 @@ pub data SettingCase (c : Clock) (s : ℕ) (u : AskedMicros) : Type 0 where
 pub set-ok : (c : Clock) (s : ℕ) (u : AskedMicros) → Ok c → settable s u ≡ true → Ok (setTo c s u)
 set-ok c s u k h =
     let a = and-true (leb s lastSecond) (leb (u .0) lastMicro) h in
-    search (needs, leb-true s lastSecond (a .0), leb-true (u .0) lastMicro (a .1), adjustment-parts (pos 0) (c .frequency .0) (omega arith) (k .frequency))
+    search (needs, leb-true s lastSecond (a .0), leb-true (u .0) lastMicro (a .1), adjustment-ok (c .kind) (pos 0) (c .frequency .0) (omega arith) (k .frequency))
 
 module _ (c : Clock) (s : ℕ) (u : AskedMicros) where
   by-tests : (a b : Bool) → inRange c ≡ a → settable s u ≡ b → SettingCase c s u

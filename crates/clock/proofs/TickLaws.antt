@@ -8,6 +8,7 @@ use lib.Dec.{T}
 use mir.Syntax.{w32}
 use mir.Val.{Fits, SFits}
 use Rattle.integers.proofs.Parts.{posPart, negPart, parts, sfits-parts, abs-parts, nonNeg-parts, posPart-add}
+use Rattle.clock.specs.Device.{deviceOf}
 use Rattle.clock.specs.Tick.{phaseSum, carry, phaseLeft, microsGrown, advanced}
 use Rattle.clock.specs.declared.state.Clock.{Clock}
 use Rattle.clock.proofs.Ok.{Ok}
@@ -40,29 +41,29 @@ module _ (c : Clock) (k : Ok c) where
   fits-left = sfits-parts (phaseLeft c) (omega (arith, left-parts))
 
   abbrev after : ℤ
-  after = pos (c .micros .0 + 3906) +ℤ carry c
+  after = pos (c .micros .0 + deviceOf (c .kind) .tick .0) +ℤ carry c
 
-  pub after-parts : (posPart after ≤ 1003907) × (3905 ≤ posPart after) × (negPart after ≡ 0)
+  pub after-parts : (posPart after ≤ c .micros .0 + deviceOf (c .kind) .tick .0 + 2) × (negPart after ≡ 0)
   after-parts = simp parts (omega arith)
 
   pub fits-after : SFits w32 after
   fits-after = sfits-parts after (omega (arith, after-parts))
 
   pub after-nonNeg : T (nonNeg after)
-  after-nonNeg = nonNeg-parts after (after-parts .2)
+  after-nonNeg = nonNeg-parts after (after-parts .1)
 
-  pub grown-most : microsGrown c ≤ 1003907
+  pub grown-most : microsGrown c ≤ 1000001 + deviceOf (c .kind) .tick .0
   grown-most = omega (arith, abs-parts after, after-parts)
 
   pub fits-grown : Fits w32 (microsGrown c)
   fits-grown = record { fits = omega (arith, grown-most) }
 
-  pub fits-micros : SFits w32 (pos (c .micros .0 + 3906))
+  pub fits-micros : SFits w32 (pos (c .micros .0 + deviceOf (c .kind) .tick .0))
   fits-micros = record { sfits = omega arith }
 
   -- microseconds after the tick, by those before and the whole microseconds carried
-  pub grown-eq : microsGrown c + negPart (carry c) ≡ c .micros .0 + 3906 + posPart (carry c)
-  grown-eq = omega (arith, abs-parts after, after-parts, posPart-add (pos (c .micros .0 + 3906)) (carry c), carry-parts)
+  pub grown-eq : microsGrown c + negPart (carry c) ≡ c .micros .0 + deviceOf (c .kind) .tick .0 + posPart (carry c)
+  grown-eq = omega (arith, abs-parts after, after-parts, posPart-add (pos (c .micros .0 + deviceOf (c .kind) .tick .0)) (carry c), carry-parts)
 
   pub advanced-ok : {us : ℕ} → us ≤ 999999 → Ok (advanced c us)
   advanced-ok h = search left-parts

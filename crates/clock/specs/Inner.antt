@@ -6,21 +6,23 @@ use lib.Dec.{eqb}
 use lib.IntN.{ℤ, pos, natAbs, _+ℤ_, _-ℤ_, _*ℤ_}
 use lib.Signed.{quotZ}
 use Rattle.clock.specs.Units.{micros, phaseUnits, offsetUnitsPerMicro, phaseUnitsPerMicro, microsPerSecond}
-use Rattle.clock.specs.Device.{recorder256}
+use Rattle.clock.specs.Device.{kindRange, deviceOf}
 use Rattle.clock.specs.State.{greatestOffset, secondRange, microsRange, phaseRange, offsetRange, frequencyRange, adjustmentRange, constantRange, flagRange, intervalRange, zeroUnlessFlag, errorRange, statusRange, inRange}
 use Rattle.clock.specs.Rollover.{shareDivisor, leapSeconds, leapStatus}
 use Rattle.clock.specs.Tick.{microsGrown, phaseLeft}
 use Rattle.clock.specs.Ticks.{ended, ranOf}
+use Rattle.clock.specs.declared.device.Device.{Device}
 use Rattle.clock.specs.declared.state.Clock.{Clock}
 use Rattle.clock.specs.declared.rollover.Leap.{Leap}
 use Rattle.clock.specs.declared.timer.Advance.{Advance}
 use Rattle.clock.specs.declared.run.CaughtUp.{CaughtUp}
 use Rattle.clock.specs.declared.run.Turn.{Turn}
 
--- the ranges of the fields up to the frequency, and of the others
+-- the ranges of the kind and of the fields up to the frequency, and of the others
 abbrev pub firstFieldsRange : Clock → Bool
 firstFieldsRange c =
-    secondRange (c .seconds)
+    kindRange (c .kind)
+    && secondRange (c .seconds)
     && microsRange (c .micros .0)
     && phaseRange (c .phase .0)
     && offsetRange (c .offset .0)
@@ -28,7 +30,7 @@ firstFieldsRange c =
 
 abbrev pub lastFieldsRange : Clock → Bool
 lastFieldsRange c =
-    adjustmentRange (c .adjustment .0)
+    adjustmentRange (deviceOf (c .kind)) (c .adjustment .0)
     && constantRange (c .constant)
     && (flagRange (c .updated) && intervalRange (c .interval) && zeroUnlessFlag (c .updated) (c .interval))
     && errorRange (c .maxerror .0)
@@ -62,18 +64,22 @@ phaseLater j c = phaseSums j c -ℤ carries j c *ℤ pos phaseUnitsPerMicro
 
 -- the microseconds, those of a second that the last tick has filled included (us)
 abbrev pub microsLater : ℕ → Clock → ℕ
-microsLater j c = natAbs (pos (c .micros .0 + recorder256 .tick .0 * j) +ℤ carries j c)
+microsLater j c = natAbs (pos (c .micros .0 + deviceOf (c .kind) .tick .0 * j) +ℤ carries j c)
 
 abbrev pub jumpOf : ℕ → Clock → Advance
 jumpOf j c = record { micros = micros (microsLater j c); phase = phaseUnits (phaseLater j c) }
 
--- a tick adds at most 3,906 us and a carry of 2
-abbrev pub mostOfATick : ℕ
-mostOfATick = recorder256 .tick .0 + 2
+-- the most that a tick carries: the whole microseconds of the greatest adjustment, and one more with the phase (us)
+abbrev pub mostCarried : Device → ℕ
+mostCarried d = natAbs (d .most .0) / phaseUnitsPerMicro + 1
+
+-- the most that a tick adds: its own microseconds and what it carries (us)
+abbrev pub mostOfATick : Device → ℕ
+mostOfATick d = d .tick .0 + mostCarried d
 
 -- none of j ticks reaches the end of the second
 abbrev pub Within : ℕ → Clock → Type 0
-Within j c = c .micros .0 + mostOfATick * j < microsPerSecond
+Within j c = c .micros .0 + mostOfATick (deviceOf (c .kind)) * j < microsPerSecond
 
 -- A run with k accepted ticks before it.
 abbrev pub adds : ℕ → CaughtUp → CaughtUp

@@ -5,8 +5,9 @@ use lib.Dec.{eqb}
 use lib.IntN.{ℤ, pos, _+ℤ_, _-ℤ_, _*ℤ_}
 use lib.Signed.{quotZ}
 use Rattle.clock.specs.Units.{micros, offsetUnits, phaseUnits, secondsPerDay, lastSecondOfDay}
-use Rattle.clock.specs.Device.{recorder256}
+use Rattle.clock.specs.Device.{deviceOf}
 use Rattle.clock.specs.State.{greatestError, longestInterval, statusOk, statusIns, statusDel, statusOop, tuningOf, whole}
+use Rattle.clock.specs.declared.device.Device.{Device}
 use Rattle.clock.specs.declared.state.Clock.{Clock}
 
 -- README.kern's tolerance of 100 ppm: what a second may add to the maximum error (us)
@@ -29,9 +30,10 @@ share c = quotZ (c .offset .0) (pos (shareDivisor (c .constant)))
 abbrev pub offsetLeft : Clock → ℤ
 offsetLeft c = c .offset .0 -ℤ share c
 
--- "Adjustment = 64 x share + frequency / 16 + 67,108,864" (phase units), of a share and a frequency
-abbrev pub adjustmentFor : ℤ → ℤ → ℤ
-adjustmentFor s f = recorder256 .scale *ℤ s +ℤ quotZ f (recorder256 .divisor) +ℤ recorder256 .base .0
+-- "Adjustment = 64 x share + frequency / 16 + 67,108,864"; of the second device "16 x share + frequency / 64 + 150,994,944" (phase
+-- units); of a share and a frequency
+abbrev pub adjustmentFor : Device → ℤ → ℤ → ℤ
+adjustmentFor d s f = pos (d .scale) *ℤ s +ℤ quotZ f (pos (d .divisor)) +ℤ d .base .0
 
 -- document 02: "Keep instead the number of rollovers since the last accepted offset, at most 1,024": a rollover is one more, whatever its
 -- leap step; where there is no earlier update there is nothing to count
@@ -60,8 +62,13 @@ unfoldable pub rolledOver : Clock → Clock
 rolledOver c =
     whole
     (record {
+      kind = c .kind;
       time = record { seconds = leapSeconds (c .status) (c .seconds + 1); micros = c .micros; phase = c .phase };
-      correction = record { offset = offsetUnits (offsetLeft c); adjustment = phaseUnits (adjustmentFor (share c) (c .frequency .0)) };
+      correction =
+          record {
+            offset = offsetUnits (offsetLeft c);
+            adjustment = phaseUnits (adjustmentFor (deviceOf (c .kind)) (share c) (c .frequency .0));
+          };
       tuning = tuningOf c;
       update = record { updated = c .updated; interval = intervalGrown (c .updated) (c .interval) };
       errors = record { maxerror = micros (maxerrorGrown (c .maxerror .0)); esterror = c .esterror };

@@ -4,6 +4,7 @@ use mathlib.Core.Bool.{Bool, _&&_, not}
 use lib.Dec.{leb}
 use lib.IntN.{pos}
 use Rattle.clock.specs.Units.{micros, offsetUnits, phaseUnits}
+use Rattle.clock.specs.Device.{deviceOf}
 use Rattle.clock.specs.State.{inRange, lastSecond, lastMicro, statusBad, tuningOf, whole, noUpdate, greatestErrors}
 use Rattle.clock.specs.Refusal.{refuse, answer}
 use Rattle.clock.specs.Rollover.{adjustmentFor}
@@ -12,13 +13,18 @@ use Rattle.clock.specs.declared.units.AskedMicros.{AskedMicros}
 use Rattle.clock.specs.declared.outcome.Outcome.{Outcome}
 
 -- "Both replaced; phase and offset left 0; no earlier update; adjustment as at a rollover with share 0; both errors 16,000,000;
--- status BAD. Frequency and time constant stay."
+-- status BAD. Frequency and time constant stay." Document 02: the "device kind, 0 or 1, which a setting keeps".
 abbrev pub setTo : Clock → ℕ → AskedMicros → Clock
 setTo c s u =
     whole
     (record {
+      kind = c .kind;
       time = record { seconds = s; micros = micros (u .0); phase = phaseUnits (pos 0) };
-      correction = record { offset = offsetUnits (pos 0); adjustment = phaseUnits (adjustmentFor (pos 0) (c .frequency .0)) };
+      correction =
+          record {
+            offset = offsetUnits (pos 0);
+            adjustment = phaseUnits (adjustmentFor (deviceOf (c .kind)) (pos 0) (c .frequency .0));
+          };
       tuning = tuningOf c;
       update = noUpdate;
       errors = greatestErrors;

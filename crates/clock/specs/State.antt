@@ -1,15 +1,16 @@
--- "The state and its ranges": the table of document 01, field by field, and the fresh clock.
+-- "The state and its ranges": the table of document 01, field by field, and the fresh clock. Document 02 adds the kind of the device.
 use Prim.Native.Nat.{ℕ, _*_, _-_}
 use mathlib.Core.Bool.{Bool, _&&_, _||_}
 use lib.Dec.{leb, eqb}
 use lib.IntN.{ℤ, pos, negℤ}
 use lib.Signed.{leZ, ltZ}
 use Rattle.clock.specs.Units.{micros, offsetUnits, phaseUnits, frequencyUnits, offsetUnitsPerMicro, phaseUnitsPerMicro, frequencyUnitsPerPpm, microsPerSecond}
-use Rattle.clock.specs.Device.{recorder256}
+use Rattle.clock.specs.Device.{kindRange, deviceOf}
 use Rattle.clock.specs.declared.units.Micros.{Micros}
 use Rattle.clock.specs.declared.units.OffsetUnits.{OffsetUnits}
 use Rattle.clock.specs.declared.units.PhaseUnits.{PhaseUnits}
 use Rattle.clock.specs.declared.units.Frequency.{Frequency}
+use Rattle.clock.specs.declared.device.Device.{Device}
 use Rattle.clock.specs.declared.state.Clock.{Clock}
 
 -- the last second that can be told
@@ -80,8 +81,9 @@ offsetRange z = within (greatestOffset * offsetUnitsPerMicro) z
 abbrev pub frequencyRange : ℤ → Bool
 frequencyRange z = within greatestFrequency z
 
-abbrev pub adjustmentRange : ℤ → Bool
-adjustmentRange z = leZ (recorder256 .least .0) z && leZ z (recorder256 .most .0)
+-- on a device
+abbrev pub adjustmentRange : Device → ℤ → Bool
+adjustmentRange d z = leZ (d .least .0) z && leZ z (d .most .0)
 
 abbrev pub constantRange : ℕ → Bool
 constantRange n = leb n greatestConstant
@@ -104,15 +106,16 @@ errorRange n = leb n greatestError
 abbrev pub statusRange : ℕ → Bool
 statusRange n = leb n statusBad
 
--- a line for each row
+-- a line for each row; the kind stands before the range that depends on it
 unfoldable pub inRange : Clock → Bool
 inRange c =
-    secondRange (c .seconds)
+    kindRange (c .kind)
+    && secondRange (c .seconds)
     && microsRange (c .micros .0)
     && phaseRange (c .phase .0)
     && offsetRange (c .offset .0)
     && frequencyRange (c .frequency .0)
-    && adjustmentRange (c .adjustment .0)
+    && adjustmentRange (deviceOf (c .kind)) (c .adjustment .0)
     && constantRange (c .constant)
     && (flagRange (c .updated) && intervalRange (c .interval) && zeroUnlessFlag (c .updated) (c .interval))
     && errorRange (c .maxerror .0)
@@ -146,7 +149,9 @@ pub record Errors : Type 0 where
   pub maxerror : Micros
   pub esterror : Micros
 
+-- the kind of the device, moved by nothing, is beside them
 pub record Groups : Type 0 where
+  pub kind : ℕ
   pub time : Time
   pub correction : Correction
   pub tuning : Tuning
@@ -173,6 +178,7 @@ errorsOf c = record { maxerror = c .maxerror; esterror = c .esterror }
 abbrev pub whole : Groups → Clock
 whole g =
     record {
+      kind = g .kind;
       seconds = g .time .seconds;
       micros = g .time .micros;
       phase = g .time .phase;
@@ -195,13 +201,14 @@ noUpdate = record { updated = 0; interval = 0 }
 abbrev pub greatestErrors : Errors
 greatestErrors = record { maxerror = micros greatestError; esterror = micros greatestError }
 
--- The column "Fresh".
-abbrev pub freshClock : Clock
-freshClock =
+-- The column "Fresh", of a kind: "a fresh clock of kind 1 has adjustment 150,994,944".
+abbrev pub freshClock : ℕ → Clock
+freshClock kind =
     whole
     (record {
+      kind = kind;
       time = record { seconds = 0; micros = micros 0; phase = phaseUnits (pos 0) };
-      correction = record { offset = offsetUnits (pos 0); adjustment = recorder256 .base };
+      correction = record { offset = offsetUnits (pos 0); adjustment = deviceOf kind .base };
       tuning = record { frequency = frequencyUnits (pos 0); constant = 0 };
       update = noUpdate;
       errors = greatestErrors;

@@ -5,7 +5,7 @@ use lib.Dec.{leb, eqb}
 use lib.IntN.{ℤ, pos, natAbs, _+ℤ_, _-ℤ_, _*ℤ_}
 use lib.Signed.{quotZ}
 use Rattle.clock.specs.Units.{micros, phaseUnits, phaseUnitsPerMicro, microsPerSecond}
-use Rattle.clock.specs.Device.{recorder256}
+use Rattle.clock.specs.Device.{deviceOf}
 use Rattle.clock.specs.State.{inRange, lastSecond, correctionOf, tuningOf, updateOf, errorsOf, whole}
 use Rattle.clock.specs.Refusal.{refuse, answer}
 use Rattle.clock.specs.Rollover.{rolledOver}
@@ -26,9 +26,9 @@ carry c = quotZ (phaseSum c) (pos phaseUnitsPerMicro)
 abbrev pub phaseLeft : Clock → ℤ
 phaseLeft c = phaseSum c -ℤ carry c *ℤ pos phaseUnitsPerMicro
 
--- "microseconds grow by 3,906 + c" (us); of a clock in range the sum is not negative
+-- "microseconds grow by 3,906 + c" (us); "A second device has ticks of 976 us". Of a clock in range the sum is not negative
 abbrev pub microsGrown : Clock → ℕ
-microsGrown c = natAbs (pos (c .micros .0 + recorder256 .tick .0) +ℤ carry c)
+microsGrown c = natAbs (pos (c .micros .0 + deviceOf (c .kind) .tick .0) +ℤ carry c)
 
 -- "If they reach 1,000,000"
 abbrev pub rollsOver : Clock → Bool
@@ -39,6 +39,7 @@ abbrev pub moved : Clock → Micros → PhaseUnits → Clock
 moved c us phase =
     whole
     (record {
+      kind = c .kind;
       time = record { seconds = c .seconds; micros = us; phase = phase };
       correction = correctionOf c;
       tuning = tuningOf c;

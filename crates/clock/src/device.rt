@@ -1,18 +1,18 @@
 ghost use mathlib.Core.Path.{_≡_};
-ghost use Rattle.clock.specs.Device.{recorder256};
+ghost use Rattle.clock.specs.Device.{recorder256, recorder1024, kind256, kind1024, deviceOf, constantsOf};
 use crate::units::Micros;
 use crate::units::PhaseUnits;
 
 // What sets one kind of recorder apart from another: the rules take these numbers from here.
 pub struct Device {
-    // rate of the timer (Hz). From one rollover to the next there are 255, 256 or 257 ticks.
+    // rate of the timer (Hz): from one rollover to the next there are that many ticks, or one more or fewer
     pub rate: u32,
     // the whole microseconds of a tick
     pub tick: Micros,
     // phase units a tick for each offset unit of the share: 2^14 / rate
-    pub scale: i32,
+    pub scale: u32,
     // frequency units that make one phase unit a tick: rate / 2^4
-    pub divisor: i32,
+    pub divisor: u32,
     // phase units a tick that make up for the microseconds that `rate` ticks lack of a second
     pub base: PhaseUnits,
     // the least and the greatest adjustment that a share and a frequency can lead to
@@ -31,9 +31,42 @@ pub const RECORDER_256: Device = Device {
     most: PhaseUnits(303037440),
 };
 
-// The constants that this build runs with.
-pub fn device_constants() -> Device
-    ensures { λ r. ⌜ r ≡ recorder256 ⌝ }
+// The 1,024 Hz recorder.
+pub const RECORDER_1024: Device = Device {
+    rate: 1024,
+    tick: Micros(976),
+    scale: 16,
+    divisor: 64,
+    base: PhaseUnits(150994944),
+    least: PhaseUnits(92012800),
+    most: PhaseUnits(209977088),
+};
+
+// The kinds of device that a clock can carry.
+pub const KIND_256: u8 = 0;
+
+pub const KIND_1024: u8 = 1;
+
+// The constants that the rules take for a kind. Of a number that is no kind, which every call refuses, those of kind 0.
+pub(crate) fn device_of(kind: u8) -> Device
+    ensures { λ r. ⌜ r ≡ deviceOf kind ⌝ }
+{
+    match kind {
+        KIND_1024 => RECORDER_1024,
+        _ => RECORDER_256,
+    }
+}
+
+// A kind's constants: refusal 0 and those of the kind, or refusal 1 and those of kind 0.
+pub struct Constants {
+    pub refusal: u8,
+    pub device: Device,
+}
+
+// The constants of a kind of recorder.
+pub fn device_constants(kind: u8) -> Constants
+    ensures { λ r. ⌜ r ≡ constantsOf kind ⌝ }
+    ensures { λ _. do ⌜ (← ⟦KIND_256⟧ .entry) ≡ kind256 ⌝ }
     ensures { λ _. do ⌜ (← ⟦RECORDER_256.rate⟧ .entry) ≡ recorder256 .rate ⌝ }
     ensures { λ _. do ⌜ (← ⟦RECORDER_256.tick.0⟧ .entry) ≡ recorder256 .tick .0 ⌝ }
     ensures { λ _. do ⌜ (← ⟦RECORDER_256.scale⟧ .entry) ≡ recorder256 .scale ⌝ }
@@ -41,6 +74,24 @@ pub fn device_constants() -> Device
     ensures { λ _. do ⌜ (← ⟦RECORDER_256.base.0⟧ .entry) ≡ recorder256 .base .0 ⌝ }
     ensures { λ _. do ⌜ (← ⟦RECORDER_256.least.0⟧ .entry) ≡ recorder256 .least .0 ⌝ }
     ensures { λ _. do ⌜ (← ⟦RECORDER_256.most.0⟧ .entry) ≡ recorder256 .most .0 ⌝ }
+    ensures { λ _. do ⌜ (← ⟦KIND_1024⟧ .entry) ≡ kind1024 ⌝ }
+    ensures { λ _. do ⌜ (← ⟦RECORDER_1024.rate⟧ .entry) ≡ recorder1024 .rate ⌝ }
+    ensures { λ _. do ⌜ (← ⟦RECORDER_1024.tick.0⟧ .entry) ≡ recorder1024 .tick .0 ⌝ }
+    ensures { λ _. do ⌜ (← ⟦RECORDER_1024.scale⟧ .entry) ≡ recorder1024 .scale ⌝ }
+    ensures { λ _. do ⌜ (← ⟦RECORDER_1024.divisor⟧ .entry) ≡ recorder1024 .divisor ⌝ }
+    ensures { λ _. do ⌜ (← ⟦RECORDER_1024.base.0⟧ .entry) ≡ recorder1024 .base .0 ⌝ }
+    ensures { λ _. do ⌜ (← ⟦RECORDER_1024.least.0⟧ .entry) ≡ recorder1024 .least .0 ⌝ }
+    ensures { λ _. do ⌜ (← ⟦RECORDER_1024.most.0⟧ .entry) ≡ recorder1024 .most .0 ⌝ }
 {
-    RECORDER_256
+    let device = device_of(kind);
+    if KIND_1024 < kind {
+        return Constants {
+            refusal: 1,
+            device: device,
+        };
+    }
+    Constants {
+        refusal: 0,
+        device: device,
+    }
 }

@@ -2,9 +2,11 @@
 ghost use mathlib.Core.Path.{_≡_};
 ghost use mathlib.Core.Bool.{true};
 ghost use Prim.Native.Nat.{_+_, _-_, _*_, _≤_, _<_};
+ghost use Rattle.clock.specs.Device.{deviceOf};
 ghost use Rattle.clock.specs.State.{inRange, lastMicro};
 ghost use Rattle.clock.specs.Inner.{Within, jumpOf, mostOfATick};
-use crate::device::RECORDER_256;
+use crate::device::KIND_1024;
+use crate::device::device_of;
 use crate::limits::LAST_MICRO;
 use crate::limits::PHASE_PER_MICRO;
 use crate::state::Clock;
@@ -12,16 +14,29 @@ use crate::timer::Advance;
 use crate::units::Micros;
 use crate::units::PhaseUnits;
 
-// The most that a tick adds to the microseconds: a carry of 2 us beside its own.
-const MOST_OF_A_TICK: u32 = 3908;
+// One over the most microseconds that a tick adds, 3,908 and 977 (2^-32, rounded down): to divide by a product.
+const PER_MICRO_256: u64 = 1099019;
+
+const PER_MICRO_1024: u64 = 4396077;
+
+const PER_MICRO_UNIT: u64 = 4294967296;
+
+fn per_micro(kind: u8) -> u64
+    ensures { λ r. ⌜ (r ≤ 4294967296) × (r * mostOfATick (deviceOf kind) ≤ 4294967296) ⌝ }
+{
+    match kind {
+        KIND_1024 => PER_MICRO_1024,
+        _ => PER_MICRO_256,
+    }
+}
 
 // How many ticks go in one step: at most `most`, and none but the last can reach the end of the second. Any such number would do.
-pub(crate) fn jump_length(us: u32, most: u64) -> u64
-    requires { ⌜ us ≤ lastMicro ⌝ }
+pub(crate) fn jump_length(c: Clock, most: u64) -> u64
+    requires { ⌜ inRange c ≡ true ⌝ }
     requires { ⌜ 0 < most ⌝ }
-    ensures { λ r. ⌜ (0 < r) × (r ≤ most) × (us + mostOfATick * (r - 1) ≤ lastMicro) ⌝ }
+    ensures { λ r. ⌜ (0 < r) × (r ≤ most) × (c .micros .0 + mostOfATick (deviceOf (c .kind)) * (r - 1) ≤ lastMicro) ⌝ }
 {
-    let j = ((LAST_MICRO - us) / MOST_OF_A_TICK + 1) as u64;
+    let j = (LAST_MICRO - c.micros.0) as u64 * per_micro(c.kind) / PER_MICRO_UNIT + 1;
     if j < most { j } else { most }
 }
 
@@ -35,7 +50,7 @@ pub(crate) fn jump(c: Clock, j: u64) -> Advance
     let carry = sum / PHASE_PER_MICRO as i64;
     Advance {
         micros: Micros(
-            ((c.micros.0 as u64 + RECORDER_256.tick.0 as u64 * j) as i64 + carry) as u32,
+            ((c.micros.0 as u64 + device_of(c.kind).tick.0 as u64 * j) as i64 + carry) as u32,
         ),
         phase: PhaseUnits((sum - carry * PHASE_PER_MICRO as i64) as i32),
     }

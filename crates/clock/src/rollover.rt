@@ -3,10 +3,11 @@ ghost use mathlib.Core.Bool.{true};
 ghost use Prim.Native.Nat.{_≤_, _<_};
 ghost use lib.IntN.{pos};
 ghost use Rattle.clock.specs.Units.{micros, offsetUnits, phaseUnits};
+ghost use Rattle.clock.specs.Device.{deviceOf};
 ghost use Rattle.clock.specs.State.{within, greatestConstant, longestInterval, greatestError, greatestFrequency, inRange, lastSecond};
 ghost use Rattle.clock.specs.Rollover.{maxerrorGrown, intervalGrown, shareDivisor, share, adjustmentFor, rolledOver};
 ghost use Rattle.clock.specs.Inner.{greatestShare, leapOf};
-use crate::device::RECORDER_256;
+use crate::device::device_of;
 use crate::limits::MAX_ERROR;
 use crate::limits::MAX_INTERVAL;
 use crate::limits::SECONDS_PER_DAY;
@@ -64,13 +65,14 @@ fn share_of(c: Clock) -> OffsetUnits
     OffsetUnits(c.offset.0 / share_divisor(c.constant))
 }
 
-// The adjustment for a share and a frequency in force.
-pub(crate) fn adjustment_for(s: OffsetUnits, f: Frequency) -> PhaseUnits
+// The adjustment of a kind for a share and a frequency in force.
+pub(crate) fn adjustment_for(kind: u8, s: OffsetUnits, f: Frequency) -> PhaseUnits
     requires { ⌜ within greatestShare (s .0) ≡ true ⌝ }
     requires { ⌜ within greatestFrequency (f .0) ≡ true ⌝ }
-    ensures { λ r. ⌜ r ≡ phaseUnits (adjustmentFor (s .0) (f .0)) ⌝ }
+    ensures { λ r. ⌜ r ≡ phaseUnits (adjustmentFor (deviceOf kind) (s .0) (f .0)) ⌝ }
 {
-    PhaseUnits(RECORDER_256.scale * s.0 + f.0 / RECORDER_256.divisor + RECORDER_256.base.0)
+    let d = device_of(kind);
+    PhaseUnits(d.scale as i32 * s.0 + f.0 / (d.divisor as i32) + d.base.0)
 }
 
 const LAST_SECOND_OF_DAY: u32 = SECONDS_PER_DAY - 1;
@@ -139,7 +141,7 @@ pub(crate) fn rollover(c: Clock) -> Clock
     let maxerror = maxerror_grown(c.maxerror);
     let share = share_of(c);
     let left = OffsetUnits(c.offset.0 - share.0);
-    let adjustment = adjustment_for(share, c.frequency);
+    let adjustment = adjustment_for(c.kind, share, c.frequency);
     let interval = interval_grown(c.updated, c.interval);
     let leap = leap_step(c.status, c.seconds + 1);
     Clock {

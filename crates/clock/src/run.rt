@@ -35,7 +35,7 @@ fn take_turn(c: Clock, most: u64) -> Turn
     requires { ⌜ 0 < most ⌝ }
     ensures { λ r. ⌜ TurnOf most c r ⌝ }
 {
-    let j = jump_length(c.micros.0, most);
+    let j = jump_length(c, most);
     let a = jump(c, j);
     let us = a.micros;
     let phase = a.phase;

@@ -13,7 +13,7 @@ use crate::units::Micros;
 use crate::units::OffsetUnits;
 use crate::units::PhaseUnits;
 
-// The clock set to a time; frequency and time constant stay.
+// The clock set to a time; frequency, time constant and kind stay.
 pub fn set(c: Clock, seconds: u64, micros: AskedMicros) -> Outcome
     ensures { λ r. ⌜ r ≡ settingOf c seconds micros ⌝ }
 {
@@ -31,7 +31,7 @@ pub fn set(c: Clock, seconds: u64, micros: AskedMicros) -> Outcome
     }
     let none = OffsetUnits(0);
     let us = Micros(micros.0 as u32);
-    let adjustment = adjustment_for(none, c.frequency);
+    let adjustment = adjustment_for(c.kind, none, c.frequency);
     let next = Clock {
         seconds: seconds as u32,
         micros: us,

@@ -1,7 +1,10 @@
 ghost use mathlib.Core.Path.{_≡_};
+ghost use Rattle.clock.specs.Fresh.{freshOf};
 ghost use Rattle.clock.specs.State.{inRange, freshClock};
 ghost use Rattle.clock.specs.Inner.{firstFieldsRange, lastFieldsRange};
-use crate::device::RECORDER_256;
+use crate::device::KIND_256;
+use crate::device::KIND_1024;
+use crate::device::device_of;
 use crate::limits::LAST_MICRO;
 use crate::limits::LAST_SECOND;
 use crate::limits::MAX_CONSTANT;
@@ -14,6 +17,7 @@ use crate::limits::MIN_OFFSET;
 use crate::limits::PHASE_LOWER_END;
 use crate::limits::PHASE_UPPER_END;
 use crate::limits::TIME_BAD;
+use crate::outcome::Outcome;
 use crate::units::Frequency;
 use crate::units::Micros;
 use crate::units::OffsetUnits;
@@ -43,13 +47,16 @@ pub struct Clock {
     pub esterror: Micros,
     // TIME_OK 0, TIME_INS 1, TIME_DEL 2, TIME_OOP 3, TIME_BAD 4 (in today's sys/timex.h TIME_BAD is 5)
     pub status: u8,
+    // kind of the device: KIND_256 0, KIND_1024 1
+    pub kind: u8,
 }
 
 // The fields up to the frequency. Every u32 is a second that can be told: the test of `seconds` always holds, and costs nothing.
 fn first_fields_in_range(c: Clock) -> bool
     ensures { λ r. ⌜ r ≡ firstFieldsRange c ⌝ }
 {
-    (c.seconds <= LAST_SECOND)
+    (c.kind <= KIND_1024)
+        & (c.seconds <= LAST_SECOND)
         & (c.micros.0 <= LAST_MICRO)
         & ((PHASE_LOWER_END < c.phase.0) & (c.phase.0 < PHASE_UPPER_END))
         & ((MIN_OFFSET <= c.offset.0) & (c.offset.0 <= MAX_OFFSET))
@@ -60,7 +67,8 @@ fn first_fields_in_range(c: Clock) -> bool
 fn last_fields_in_range(c: Clock) -> bool
     ensures { λ r. ⌜ r ≡ lastFieldsRange c ⌝ }
 {
-    ((RECORDER_256.least.0 <= c.adjustment.0) & (c.adjustment.0 <= RECORDER_256.most.0))
+    let device = device_of(c.kind);
+    ((device.least.0 <= c.adjustment.0) & (c.adjustment.0 <= device.most.0))
         & (c.constant <= MAX_CONSTANT)
         & ((c.updated <= 1) & (c.interval <= c.updated as u32 * MAX_INTERVAL))
         & (c.maxerror.0 <= MAX_ERROR)
@@ -79,11 +87,27 @@ pub fn in_range(c: Clock) -> bool
     last_fields_in_range(c)
 }
 
-// The clock before anything has happened to it, which counts as set to 0 s.
-pub fn fresh() -> Clock
-    ensures { λ r. ⌜ r ≡ freshClock ⌝ }
+// The clock of a kind before anything has happened to it, which counts as set to 0 s. Of a number that is no kind: refusal 1, and the
+// clock of kind 0.
+pub fn fresh(kind: u8) -> Outcome
+    ensures { λ r. ⌜ r ≡ freshOf kind ⌝ }
 {
-    let base = RECORDER_256.base;
+    if KIND_1024 < kind {
+        return Outcome {
+            refusal: 1,
+            clock: unused(KIND_256),
+        };
+    }
+    Outcome {
+        refusal: 0,
+        clock: unused(kind),
+    }
+}
+
+fn unused(kind: u8) -> Clock
+    ensures { λ r. ⌜ r ≡ freshClock kind ⌝ }
+{
+    let base = device_of(kind).base;
     Clock {
         seconds: 0,
         micros: Micros(0),
@@ -97,5 +121,6 @@ pub fn fresh() -> Clock
         maxerror: Micros(MAX_ERROR),
         esterror: Micros(MAX_ERROR),
         status: TIME_BAD,
+        kind: kind,
     }
 }

@@ -3,7 +3,7 @@ ghost use mathlib.Core.Bool.{true};
 ghost use Rattle.clock.specs.State.{inRange};
 ghost use Rattle.clock.specs.Tick.{rollsOver, tickOf};
 ghost use Rattle.clock.specs.Inner.{advanceOf};
-use crate::device::RECORDER_256;
+use crate::device::device_of;
 use crate::limits::LAST_SECOND;
 use crate::limits::MICROS_PER_SECOND;
 use crate::limits::PHASE_PER_MICRO;
@@ -27,7 +27,7 @@ pub(crate) fn advance_of(c: Clock) -> Advance
     let sum = c.phase.0 + c.adjustment.0;
     let carry = sum / PHASE_PER_MICRO;
     Advance {
-        micros: Micros(((c.micros.0 + RECORDER_256.tick.0) as i32 + carry) as u32),
+        micros: Micros(((c.micros.0 + device_of(c.kind).tick.0) as i32 + carry) as u32),
         phase: PhaseUnits(sum - carry * PHASE_PER_MICRO),
     }
 }

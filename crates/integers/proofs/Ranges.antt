@@ -1,7 +1,7 @@
 -- Ranges of integers, tested by `leZ` and `ltZ`, as bounds on both parts; and conjunctions of tests taken apart and put together.
 use mathlib.Core.Path.{_≡_, refl, sym, _∙_}
 use mathlib.Core.Bool.{Bool, true, false, _&&_, false≢true, and-false}
-use Prim.Native.Nat.{ℕ, zero, suc, _≤_, _<_}
+use Prim.Native.Nat.{ℕ, zero, suc, _+_, _≤_, _<_}
 use native.Mathlib.Omega.{arith}
 use lib.Dec.{leb, eqb}
 use lib.IntN.{ℤ, pos, negℤ}
@@ -21,6 +21,16 @@ true-and {a = false} e f = absurd (false≢true e)
 pub zero-only : (m n : ℕ) → leb n 0 ≡ leb n m && eqb n 0
 zero-only m zero = sym (simp (le-leb 0 m (omega arith)))
 zero-only m (suc n) = lt-leb (suc n) 0 (omega arith) ∙ sym (simp (ne-eqb (suc n) 0 (λ h. omega arith)) (and-false (leb (suc n) m)))
+
+module _ (l h z : ℤ) where
+  -- l ≤ z ≤ h
+  pub bounds-parts : (leZ l z && leZ z h) ≡ true → (posPart l + negPart z ≤ posPart z + negPart l) × (posPart z + negPart h ≤ posPart h + negPart z)
+  bounds-parts e =
+      let p = and-true (leZ l z) (leZ z h) e in
+      (le-parts l z (p .0), le-parts z h (p .1))
+
+  pub parts-bounds : posPart l + negPart z ≤ posPart z + negPart l → posPart z + negPart h ≤ posPart h + negPart z → (leZ l z && leZ z h) ≡ true
+  parts-bounds a b = true-and (parts-le l z a) (parts-le z h b)
 
 module _ (l h : ℕ) (z : ℤ) where
   -- -l ≤ z ≤ h

@@ -3,7 +3,7 @@ use Prim.Native.Nat.{_-_}
 use lib.Dec.{lit<}
 use Rattle.clock.specs.Inner.{Within}
 use Rattle.clock.proofs.Ok.{Ok, ok}
-use Rattle.clock.proofs.JumpLaws.{jumpReads, read-ticks, wide-phase, wide-adjustment, fits-steps, fits-sums, fits-carries, fits-wholes, fits-left, fits-phase-left, fits-later, later-nonNeg, fits-micros-later}
+use Rattle.clock.proofs.JumpLaws.{jumpReads, read-ticks, fits-passed, fits-together, fits-counted, wide-phase, wide-adjustment, fits-steps, fits-sums, fits-carries, fits-wholes, fits-left, fits-phase-left, fits-later, later-nonNeg, fits-micros-later}
 use borrow.Author.Needs.{needs}
 use Rattle.clock.proofs.jump.jump.Statement.{statement}
 use Rattle.clock.proofs.jump.jump.Tie as tie
@@ -56,62 +56,74 @@ div-carry c =
 cast-t9 : tie.Need-cast-t9
 cast-t9 c = search needs
 
-cast-t15 : tie.Need-cast-t15
-cast-t15 c = search needs
+device-of-requires : tie.Need-device-of-requires
+device-of-requires c κs = search needs
 
-mul-t16 : tie.Need-mul-t16
-mul-t16 c = search needs
+cast-t11 : tie.Need-cast-t11
+cast-t11 c = search needs
 
-add-t17 : tie.Need-add-t17
-add-t17 c = search needs
+mul-t12 : tie.Need-mul-t12
+mul-t12 c =
+    let d = c .before in
+    let s = d .before .before .before .before .before .before in
+    rw (d .device-of .ensures) (fits-passed (s .args .c) (known s) (s .args .j) (within s))
+
+add-t13 : tie.Need-add-t13
+add-t13 c =
+    let d = c .before in
+    let s = d .before .before .before .before .before .before in
+    rw (d .device-of .ensures) (fits-together (s .args .c) (known s) (s .args .j) (within s))
 
 cast-t8 : tie.Need-cast-t8
-cast-t8 c = search needs
+cast-t8 c =
+    let d = c .before in
+    let s = d .before .before .before .before .before .before in
+    rw (d .device-of .ensures) (fits-counted (s .args .c) (known s) (s .args .j) (within s))
 
 add-t5 : tie.Need-add-t5
 add-t5 c =
-    let s = c .before .before .before .before .before .before in
+    let s = c .before .before .before .before .before .before .before in
     let k = known s in
     let w = within s in
-    simp (read-ticks (s .args .c) k (s .args .j) w, jumpReads) (fits-later (s .args .c) k (s .args .j) w)
+    simp (c .before .device-of .ensures, read-ticks (s .args .c) k (s .args .j) w, jumpReads) (fits-later (s .args .c) k (s .args .j) w)
 
-cast-t18 : tie.Need-cast-t18
-cast-t18 c =
-    let s = c .before .before .before .before .before .before in
+cast-t14 : tie.Need-cast-t14
+cast-t14 c =
+    let s = c .before .before .before .before .before .before .before in
     let k = known s in
     let w = within s in
-    simp (read-ticks (s .args .c) k (s .args .j) w, jumpReads) (later-nonNeg (s .args .c) k (s .args .j) w, fits-micros-later (s .args .c) k (s .args .j) w)
+    simp (c .before .device-of .ensures, read-ticks (s .args .c) k (s .args .j) w, jumpReads) (later-nonNeg (s .args .c) k (s .args .j) w, fits-micros-later (s .args .c) k (s .args .j) w)
 
 cast-t7 : tie.Need-cast-t7
 cast-t7 c = search needs
 
 mul-t6 : tie.Need-mul-t6
 mul-t6 c =
-    let s = c .before .before .before .before .before .before in
+    let s = c .before .before .before .before .before .before .before in
     let k = known s in
     let w = within s in
     simp (read-ticks (s .args .c) k (s .args .j) w, jumpReads) (fits-wholes (s .args .c) k (s .args .j) w)
 
-sub-t20 : tie.Need-sub-t20
-sub-t20 c =
-    let s = c .before .before .before .before .before .before in
+sub-t16 : tie.Need-sub-t16
+sub-t16 c =
+    let s = c .before .before .before .before .before .before .before in
     let k = known s in
     let w = within s in
     simp (read-ticks (s .args .c) k (s .args .j) w, jumpReads) (fits-left (s .args .c) k (s .args .j) w)
 
-cast-t21 : tie.Need-cast-t21
-cast-t21 c =
-    let s = c .before .before .before .before .before .before in
+cast-t17 : tie.Need-cast-t17
+cast-t17 c =
+    let s = c .before .before .before .before .before .before .before in
     let k = known s in
     let w = within s in
     simp (read-ticks (s .args .c) k (s .args .j) w, jumpReads) (fits-phase-left (s .args .c) k (s .args .j) w)
 
 returns : tie.Need-returns
 returns c =
-    let s = c .before .before .before .before .before .before in
+    let s = c .before .before .before .before .before .before .before in
     let k = known s in
     let w = within s in
-    simp (read-ticks (s .args .c) k (s .args .j) w, jumpReads)
+    simp (c .before .device-of .ensures, read-ticks (s .args .c) k (s .args .j) w, jumpReads)
 
 pub jump-spec : {M : Type 1} → statement M
 jump-spec =
@@ -125,14 +137,15 @@ jump-spec =
     cast-carry
     div-carry
     cast-t9
-    cast-t15
-    mul-t16
-    add-t17
+    device-of-requires
+    cast-t11
+    mul-t12
+    add-t13
     cast-t8
     add-t5
-    cast-t18
+    cast-t14
     cast-t7
     mul-t6
-    sub-t20
-    cast-t21
+    sub-t16
+    cast-t17
     returns)

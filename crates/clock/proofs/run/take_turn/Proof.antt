@@ -1,14 +1,15 @@
 -- `clock::run::take_turn`: a turn of a run, by what its last tick does.
 use mathlib.Core.Path.{_≡_, _∙_}
 use mathlib.Core.Bool.{true}
-use Prim.Native.Nat.{_-_}
+use Prim.Native.Nat.{ℕ, _-_, _≤_}
+use native.Mathlib.Nat.{mul-le-mul-left}
 use native.Mathlib.Omega.{arith}
 use borrow.Author.Needs.{needs}
 use borrow.Author.Tests.{le-leb}
+use Rattle.clock.specs.Device.{deviceOf}
 use Rattle.clock.specs.Tick.{moved, rollsOver}
-use Rattle.clock.specs.Inner.{Within, advanceOf}
+use Rattle.clock.specs.Inner.{Within, advanceOf, mostOfATick}
 use Rattle.clock.specs.declared.state.Clock.{Clock}
-use Rattle.clock.proofs.Ok.{ok}
 use Rattle.clock.proofs.RunLaws.{stays-turn, before-in-range, before-advance, rolled-turn, refused-turn}
 use Rattle.clock.proofs.run.take_turn.Statement.{statement}
 use Rattle.clock.proofs.run.take_turn.Tie as tie
@@ -16,6 +17,11 @@ use Rattle.clock.proofs.run.take_turn.Tie as tie
 -- none of the ticks before the last reaches the end of the second
 within : (l : tie.After-jump-length) → Within (l .jump-length .result - 1) (l .before .args .c)
 within l = omega (arith, l .jump-length .ensures .2)
+
+fewer : (c : Clock) (j : ℕ) → Within (j - 1) c → Within (j - 1 - 1) c
+fewer c j w =
+    let h : j - 1 - 1 ≤ j - 1 = omega arith in
+    omega (arith, w, mul-le-mul-left (mostOfATick (deviceOf (c .kind))) h)
 
 -- where the last tick rolls over, or is refused
 abbrev length : tie.After-jump2 → tie.After-jump-length
@@ -35,7 +41,7 @@ rolls : (m : tie.After-jump2) → rollsOver (before m) ≡ true
 rolls m = rw (advances m) at (le-leb _ _ (m .before .if1 .left))
 
 jump-length-requires : tie.Need-jump-length-requires
-jump-length-requires c κs = (omega (arith, ok (c .args .c) (c .pre .0)), c .pre .1)
+jump-length-requires c κs = search needs
 
 jump-requires : tie.Need-jump-requires
 jump-requires c κs = search needs
@@ -52,7 +58,9 @@ sub-jump : tie.Need-sub-jump
 sub-jump c = search needs
 
 jump-requires-2 : tie.Need-jump-requires-2
-jump-requires-2 c κs = search needs
+jump-requires-2 c κs =
+    let l = c .before .before .before .before .before in
+    (l .before .pre .0, fewer (l .before .args .c) (l .jump-length .result) (within l))
 
 overflow-requires : tie.Need-overflow-requires
 overflow-requires c κs =
@@ -69,8 +77,8 @@ returns-2 c =
     let j = length m .jump-length in
     rolled-turn (s .args .most) (j .result) (s .args .c) (s .pre .0) (j .ensures .0) (j .ensures .1) (within (length m)) (m .jump2 .result) (m .jump2 .ensures) (o .overflow .result) (o .overflow .ensures) (rolls m) (c .if2 .taken)
 
-sub-t25 : tie.Need-sub-t25
-sub-t25 c =
+sub-t26 : tie.Need-sub-t26
+sub-t26 c =
     let m = c .before .before .before .before .before .before .before .before .before .before .before in
     length m .jump-length .ensures .0
 
@@ -93,5 +101,5 @@ take-turn-spec =
     jump-requires-2
     overflow-requires
     returns-2
-    sub-t25
+    sub-t26
     returns-3)

@@ -11,6 +11,7 @@ use mir.Facts.{toZ-ofZ}
 use mir.Syntax.{w32}
 use mir.Val.{SFits, toZ, ofZ}
 use Rattle.integers.proofs.Ranges.{zero-only}
+use Rattle.clock.proofs.DeviceLaws.{fits-least, fits-most}
 use Rattle.clock.proofs.state.last_fields_in_range.Statement.{statement}
 use Rattle.clock.proofs.state.last_fields_in_range.Tie as tie
 
@@ -26,6 +27,9 @@ interval-test zero n = zero-only 1024 n
 interval-test (suc zero) n = sym (and-one (leb n 1024))
 interval-test (suc (suc flag)) n = simp (lt-leb (suc (suc flag)) 1 (omega arith))
 
+device-of-requires : tie.Need-device-of-requires
+device-of-requires c κs = search needs
+
 cast-result : tie.Need-cast-result
 cast-result c = search needs
 
@@ -33,7 +37,10 @@ mul-result : tie.Need-mul-result
 mul-result c = search needs
 
 returns : tie.Need-returns
-returns c = simp (adjustment-is, interval-test)
+returns c =
+    let d = c .before .before .before .before .before .before .before .before .before .before .before .before .before .before .before in
+    let k = d .before .args .c .kind in
+    simp (d .device-of .ensures, adjustment-is, interval-test, toZ-ofZ (fits-least k), toZ-ofZ (fits-most k))
 
 pub last-fields-in-range-spec : {M : Type 1} → statement M
-last-fields-in-range-spec = tie.close (tie.spec cast-result mul-result returns)
+last-fields-in-range-spec = tie.close (tie.spec device-of-requires cast-result mul-result returns)

@@ -1,4 +1,5 @@
 -- `clock::timer::advance_of`: the steps of a tick fit 32 bits, so that microseconds and phase are what the rules say.
+use borrow.Author.Needs.{needs}
 use lib.Dec.{lit<}
 use mir.Facts.{toZ-ofZ, toZ-pos}
 use mir.Syntax.{w32}
@@ -13,8 +14,7 @@ known s = ok (s .args .c) (s .pre)
 
 add-sum : tie.Need-add-sum
 add-sum c =
-    let s = c .before .before in
-    let k = known s in
+    let k = known (c .before .before) in
     simp (toZ-ofZ (fits-phase _ k), toZ-ofZ (fits-adjustment _ k)) (fits-sum _ k)
 
 div-carry : tie.Need-div-carry
@@ -22,39 +22,54 @@ div-carry c =
     let k = known (c .before .before) in
     (lit< tt, simp (toZ-ofZ (fits-phase _ k), toZ-ofZ (fits-adjustment _ k), toZ-ofZ (fits-sum _ k)) (fits-carry _ k))
 
-add-t9 : tie.Need-add-t9
-add-t9 c =
-    let k = known (c .before .before .before .before) in
-    record { fits = omega arith }
+device-of-requires : tie.Need-device-of-requires
+device-of-requires c κs = search needs
 
-cast-t10 : tie.Need-cast-t10
-cast-t10 c = fits-micros _ (known (c .before .before .before .before))
+add-t5 : tie.Need-add-t5
+add-t5 c =
+    let e = c .before .before .device-of .ensures in
+    let k = known (c .before .before .before .before .before) in
+    rw e (record { fits = omega arith })
 
-add-t11 : tie.Need-add-t11
-add-t11 c =
-    let k = known (c .before .before .before .before) in
-    simp (toZ-ofZ (fits-phase _ k), toZ-ofZ (fits-adjustment _ k), toZ-ofZ (fits-sum _ k), toZ-ofZ (fits-carry _ k), toZ-pos w32 (fits-micros _ k .sfits)) (fits-after _ k)
+cast-t6 : tie.Need-cast-t6
+cast-t6 c = rw (c .before .before .device-of .ensures) (fits-micros _ (known (c .before .before .before .before .before)))
 
-cast-t12 : tie.Need-cast-t12
-cast-t12 c =
-    let k = known (c .before .before .before .before) in
-    simp (toZ-ofZ (fits-phase _ k), toZ-ofZ (fits-adjustment _ k), toZ-ofZ (fits-sum _ k), toZ-ofZ (fits-carry _ k), toZ-pos w32 (fits-micros _ k .sfits), toZ-ofZ (fits-after _ k)) (after-nonNeg _ k, fits-grown _ k)
+add-t7 : tie.Need-add-t7
+add-t7 c =
+    let k = known (c .before .before .before .before .before) in
+    simp (c .before .before .device-of .ensures, toZ-ofZ (fits-phase _ k), toZ-ofZ (fits-adjustment _ k), toZ-ofZ (fits-sum _ k), toZ-ofZ (fits-carry _ k), toZ-pos w32 (fits-micros _ k .sfits)) (fits-after _ k)
 
-mul-t14 : tie.Need-mul-t14
-mul-t14 c =
-    let k = known (c .before .before .before .before) in
+cast-t8 : tie.Need-cast-t8
+cast-t8 c =
+    let k = known (c .before .before .before .before .before) in
+    simp (c .before .before .device-of .ensures, toZ-ofZ (fits-phase _ k), toZ-ofZ (fits-adjustment _ k), toZ-ofZ (fits-sum _ k), toZ-ofZ (fits-carry _ k), toZ-pos w32 (fits-micros _ k .sfits), toZ-ofZ (fits-after _ k)) (after-nonNeg _ k, fits-grown _ k)
+
+mul-t10 : tie.Need-mul-t10
+mul-t10 c =
+    let k = known (c .before .before .before .before .before) in
     simp (toZ-ofZ (fits-phase _ k), toZ-ofZ (fits-adjustment _ k), toZ-ofZ (fits-sum _ k), toZ-ofZ (fits-carry _ k)) (fits-whole _ k)
 
-sub-t15 : tie.Need-sub-t15
-sub-t15 c =
-    let k = known (c .before .before .before .before) in
+sub-t11 : tie.Need-sub-t11
+sub-t11 c =
+    let k = known (c .before .before .before .before .before) in
     simp (toZ-ofZ (fits-phase _ k), toZ-ofZ (fits-adjustment _ k), toZ-ofZ (fits-sum _ k), toZ-ofZ (fits-carry _ k), toZ-ofZ (fits-whole _ k)) (fits-left _ k)
 
 returns : tie.Need-returns
 returns c =
-    let k = known (c .before .before .before .before) in
-    simp (toZ-ofZ (fits-phase _ k), toZ-ofZ (fits-adjustment _ k), toZ-ofZ (fits-sum _ k), toZ-ofZ (fits-carry _ k), toZ-pos w32 (fits-micros _ k .sfits), toZ-ofZ (fits-after _ k), toZ-ofZ (fits-whole _ k), toZ-ofZ (fits-left _ k))
+    let k = known (c .before .before .before .before .before) in
+    simp (c .before .before .device-of .ensures, toZ-ofZ (fits-phase _ k), toZ-ofZ (fits-adjustment _ k), toZ-ofZ (fits-sum _ k), toZ-ofZ (fits-carry _ k), toZ-pos w32 (fits-micros _ k .sfits), toZ-ofZ (fits-after _ k), toZ-ofZ (fits-whole _ k), toZ-ofZ (fits-left _ k))
 
 pub advance-of-spec : {M : Type 1} → statement M
 advance-of-spec =
-    tie.close (tie.spec add-sum div-carry add-t9 cast-t10 add-t11 cast-t12 mul-t14 sub-t15 returns)
+    tie.close
+    (tie.spec
+    add-sum
+    div-carry
+    device-of-requires
+    add-t5
+    cast-t6
+    add-t7
+    cast-t8
+    mul-t10
+    sub-t11
+    returns)
