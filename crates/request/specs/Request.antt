@@ -154,6 +154,7 @@ unfoldable pub requested : Clock → Request → Clock
 requested c r =
     whole
     (record {
+      kind = c .kind;
       time = timeOf c;
       correction = record { offset = offsetUnits (offsetAfter c r); adjustment = c .adjustment };
       tuning = record { frequency = frequencyUnits (frequencyAfter c r); constant = constantWritten c r };
