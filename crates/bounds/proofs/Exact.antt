@@ -1,20 +1,24 @@
--- The first bound: the clock's time with its phase stays within 15/2^32 us a tick of the exact time.
-use mathlib.Core.Path.{_≡_, refl, sym, subst}
+-- The first bound: the clock's time with its phase stays within a phase unit, less one unit of exact time, a tick of the exact time.
+use mathlib.Core.Path.{_≡_, refl, sym, ap, subst}
 use mathlib.Core.Bool.{Bool, true, false}
 use mathlib.Core.List.{List, [], _∷_}
-use Prim.Native.Nat.{ℕ, _+_, _-_, _*_, _/_, _≤_, _<_}
+use Prim.Native.Nat.{ℕ, _+_, _-_, _*_, _/_, _%_, _≤_, _<_}
 use native.Mathlib.Omega.{arith}
+use native.Mathlib.Nat.{mod-lt, div-add-mod, zero-div}
 use borrow.Author.Tests.{ne-eqb}
 use lib.Dec.{eqb}
 use lib.IntN.{ℤ, pos, _+ℤ_, _*ℤ_}
-use Rattle.integers.proofs.Parts.{posPart, negPart, one-part}
-use Rattle.integers.proofs.Linear.{Diff, self, lit, add, sub, times, timesR, quot, close}
+use Rattle.integers.proofs.Parts.{posPart, negPart, parts, eq-parts}
+use Rattle.integers.proofs.Linear.{Diff, self, lit, add, sub, times, timesR, quot}
+use Rattle.clock.specs.Device.{deviceOf}
 use Rattle.clock.specs.State.{freshClock}
 use Rattle.clock.specs.Rollover.{rolledOver, adjustmentFor, leapSeconds}
 use Rattle.clock.specs.Tick.{tickOf, advanced, microsGrown, carry, phaseLeft}
 use Rattle.clock.specs.Setting.{settingOf}
+use Rattle.clock.specs.declared.device.Device.{Device}
 use Rattle.clock.specs.declared.state.Clock.{Clock}
 use Rattle.clock.specs.declared.units.AskedMicros.{AskedMicros}
+use Rattle.clock.proofs.DeviceLaws.{laws, divisor-pos}
 use Rattle.clock.proofs.Ok.{Ok}
 use Rattle.clock.proofs.RollLaws.{LeapCase, ins, del, none, leapCase, rolled-ok}
 use Rattle.clock.proofs.SettingCases.{SettingCase, refused, done, settingCase}
@@ -27,80 +31,153 @@ use Rattle.request.proofs.RequestCases as req
 use Rattle.event.specs.declared.event.Call.{Call}
 use Rattle.event.specs.declared.event.Call.the-variants as call
 use Rattle.bounds.specs.Calls.{next, afterBy, after}
+use Rattle.bounds.specs.Measure.{measureOf}
 use Rattle.bounds.specs.Book.{Book, emptyBook, tickBook, leapExact, rolloverBook, requestBook, callBook, bookFrom}
 use Rattle.bounds.proofs.Runs.{fresh-ok}
+use Rattle.bounds.proofs.MeasureLaws.{measured}
 
 -- what a reading of the clock tells (us)
 abbrev pub told : Clock → ℕ
 told c = c .seconds * 1000000 + c .micros .0
 
--- the clock's time with its phase (2^-32 us)
+-- the clock's time with its phase (phase units)
 abbrev pub total : Clock → ℤ
-total c = pos (4294967296 * told c) +ℤ pos 16 *ℤ c .phase .0
+total c = pos (268435456 * told c) +ℤ c .phase .0
 
--- t and e are at most k apart
-pub record Near (t e : ℤ) (k : ℕ) : Type 0 where
-  pub high : posPart t + negPart e ≤ posPart e + negPart t + k
-  pub low : posPart e + negPart t ≤ posPart t + negPart e + k
+-- the units of exact time in a phase unit
+abbrev pub perPhase : Clock → ℕ
+perPhase c = deviceOf (c .kind) .divisor
+
+-- t is within (d - 1) n of e
+pub record Near (t e : ℤ) (d n : ℕ) : Type 0 where
+  pub high : posPart t + negPart e + n ≤ posPart e + negPart t + d * n
+  pub low : posPart e + negPart t + n ≤ posPart t + negPart e + d * n
 
 pub record Inv (c : Clock) (b : Book) : Type 0 where
   pub range : Ok c
   -- the adjustment is that of the share and the frequency in force
-  pub rate : c .adjustment .0 ≡ adjustmentFor (b .share) (b .frequency)
-  pub near : Near (total c) (b .exact) (15 * b .n)
+  pub rate : c .adjustment .0 ≡ adjustmentFor (deviceOf (c .kind)) (b .share) (b .frequency)
+  pub near : Near (pos (perPhase c) *ℤ total c) (b .exact) (perPhase c) (b .n)
 
-rate-diff : (a s f : ℤ) → a ≡ adjustmentFor s f → Diff a (64 * posPart s + posPart f / 16 + 67108864) (64 * negPart s + negPart f / 16 + 0)
-rate-diff a s f e =
-    subst (λ (z : ℤ). Diff z (64 * posPart s + posPart f / 16 + 67108864) (64 * negPart s + negPart f / 16 + 0)) (sym e)
-    (add (add (times 64 (self s)) (quot f 16)) (lit 67108864))
+rate-diff : (d : Device) (a s f : ℤ) → a ≡ adjustmentFor d s f
+    → Diff a (d .scale * posPart s + posPart f / d .divisor + posPart (d .base .0)) (d .scale * negPart s + negPart f / d .divisor + negPart (d .base .0))
+rate-diff d a s f e =
+    subst (λ (z : ℤ). Diff z (d .scale * posPart s + posPart f / d .divisor + posPart (d .base .0)) (d .scale * negPart s + negPart f / d .divisor + negPart (d .base .0))) (sym e)
+    (add (add (times (d .scale) (self s)) (quot f (d .divisor))) (self (d .base .0)))
+
+-- What a tick adds, in units of exact time: no more and no less than the book adds, but for what the frequency's quotient drops.
+record Gain (d : Device) (aP aN sP sN fP fN : ℕ) : Type 0 where
+  pub dropP : ℕ
+  pub dropN : ℕ
+  pub small : (dropP < d .divisor) × (dropN < d .divisor)
+  pub sum : d .divisor * (268435456 * d .tick .0 + aP) + (1024 * sN + fN + dropP) ≡ d .divisor * aN + (16777216000000 + 1024 * sP + fP + dropN)
+
+gain : (kind : ℕ) (a s f : ℤ) → a ≡ adjustmentFor (deviceOf kind) s f → Gain (deviceOf kind) (posPart a) (negPart a) (posPart s) (negPart s) (posPart f) (negPart f)
+gain kind a s f e =
+    let D = deviceOf kind .divisor in
+    let l = laws kind in
+    let r = rate-diff (deviceOf kind) a s f e in
+    record {
+      dropP = posPart f % D;
+      dropN = negPart f % D;
+      small = (mod-lt (posPart f) (divisor-pos kind), mod-lt (negPart f) (divisor-pos kind));
+      sum =
+          omega (
+            arith,
+            ap (λ (x : ℕ). D * x) (r .eq),
+            l .second,
+            ap (λ (x : ℕ). D * x) (l .signs .0),
+            ap (λ (x : ℕ). x * posPart s) (l .share),
+            ap (λ (x : ℕ). x * negPart s) (l .share),
+            div-add-mod (posPart f) D,
+            div-add-mod (negPart f) D,
+          );
+    }
+
+-- the book of a tick
+abbrev ticked : Clock → Book → Book
+ticked c b = tickBook (measureOf (c .kind)) b
+
+-- what its exact time is the difference of
+abbrev exactP : Book → ℕ
+exactP b = posPart (b .exact) + 16777216000000 + posPart (b .frequency) + 1024 * posPart (b .share)
+
+abbrev exactN : Book → ℕ
+exactN b = negPart (b .exact) + negPart (b .frequency) + 1024 * negPart (b .share)
 
 module _ (c : Clock) (b : Book) (i : Inv c b) where
   pub left-diff : Diff (phaseLeft c) (posPart (c .phase .0) + posPart (c .adjustment .0) + negPart (carry c) * 268435456) (negPart (c .phase .0) + negPart (c .adjustment .0) + posPart (carry c) * 268435456)
   left-diff = sub (add (self (c .phase .0)) (self (c .adjustment .0))) (timesR 268435456 (self (carry c)))
 
-  total-diff : Diff (total c) (4294967296 * told c + 16 * posPart (c .phase .0)) (0 + 16 * negPart (c .phase .0))
-  total-diff = add (lit (4294967296 * told c)) (times 16 (self (c .phase .0)))
+  exact-diff : Diff (ticked c b .exact) (exactP b) (exactN b)
+  exact-diff =
+      let d = add (add (add (self (b .exact)) (lit (measureOf (c .kind) .tick))) (times 1 (self (b .frequency)))) (times 1024 (self (b .share))) in
+      record { eq = omega (arith, d .eq, measured (c .kind) .tick) }
 
-  exact-diff : Diff (tickBook b .exact) (posPart (b .exact) + 16777216000000 + posPart (b .frequency) + 1024 * posPart (b .share)) (negPart (b .exact) + 0 + negPart (b .frequency) + 1024 * negPart (b .share))
-  exact-diff = add (add (add (self (b .exact)) (lit 16777216000000)) (self (b .frequency))) (times 1024 (self (b .share)))
+  -- A clock whose time has grown by the tick and a leap step, and a book whose exact time has grown by its tick and the same step.
+  step-near : (z x : ℤ) (up down : ℕ)
+      → Diff z (posPart (total c) + 268435456 * deviceOf (c .kind) .tick .0 + posPart (c .adjustment .0) + up) (negPart (total c) + negPart (c .adjustment .0) + down)
+      → Diff x (exactP b + perPhase c * up) (exactN b + perPhase c * down) → Near (pos (perPhase c) *ℤ z) x (perPhase c) (b .n + 1)
+  step-near z x up down w y =
+      let t = times (perPhase c) (self (total c)) in
+      let u = times (perPhase c) w in
+      let g = gain (c .kind) (c .adjustment .0) (b .share) (b .frequency) (i .rate) in
+      record {
+        high = omega (arith, t .eq, u .eq, y .eq, g .sum, g .small, i .near .high);
+        low = omega (arith, t .eq, u .eq, y .eq, g .sum, g .small, i .near .low);
+      }
 
   -- a tick that does not roll over
-  plain-near : Near (total (advanced c (microsGrown c))) (tickBook b .exact) (15 * (b .n + 1))
+  plain-near : Near (pos (perPhase c) *ℤ total (advanced c (microsGrown c))) (ticked c b .exact) (perPhase c) (b .n + 1)
   plain-near =
-      let d = add (lit (4294967296 * told (advanced c (microsGrown c)))) (times 16 left-diff) in
-      let r = rate-diff (c .adjustment .0) (b .share) (b .frequency) (i .rate) in
-      record {
-        high = close (15 * (b .n + 1)) d exact-diff (omega (arith, total-diff .eq, r .eq, grown-eq c (i .range), i .near .high, one-part (b .frequency)));
-        low = close (15 * (b .n + 1)) exact-diff d (omega (arith, total-diff .eq, r .eq, grown-eq c (i .range), i .near .low, one-part (b .frequency)));
-      }
+      let d = add (lit (268435456 * told (advanced c (microsGrown c)))) left-diff in
+      let w = add (lit (268435456 * told c)) (self (c .phase .0)) in
+      step-near (total (advanced c (microsGrown c))) (ticked c b .exact) 0 0
+      (record { eq = omega (arith, d .eq, w .eq, grown-eq c (i .range)) })
+      (record { eq = omega (arith, exact-diff .eq) })
 
 -- a leap step moves the second and the exact time alike
 record Leapt (c : Clock) (x : ℤ) (p n : ℕ) : Type 0 where
   pub up : ℕ
   pub down : ℕ
-  pub exact : Diff (leapExact c x) (p + up) (n + down)
-  pub second : leapSeconds (c .status) (c .seconds + 1) * 4294967296000000 + down ≡ (c .seconds + 1) * 4294967296000000 + up
+  pub exact : Diff (leapExact c x) (p + perPhase c * up) (n + perPhase c * down)
+  pub second : leapSeconds (c .status) (c .seconds + 1) * 268435456000000 + down ≡ (c .seconds + 1) * 268435456000000 + up
 
-leapt : (c : Clock) {x : ℤ} {p n : ℕ} → Diff x p n → LeapCase (c .status) (c .seconds + 1) → Leapt c x p n
-leapt c {x} {p} {n} d (ins e) = record { up = 0; down = 4294967296000000; exact = simp e (sub d (lit 4294967296000000)); second = simp e (omega arith) }
-leapt c {x} {p} {n} d (del e f) = record { up = 4294967296000000; down = 0; exact = simp (e, f) (add d (lit 4294967296000000)); second = simp (e, f) (omega arith) }
-leapt c {x} {p} {n} d (none e f) = record { up = 0; down = 0; exact = simp (e, f) (record { eq = omega (arith, d .eq) }); second = simp (e, f) (omega arith) }
+module _ (c : Clock) {x : ℤ} {p n : ℕ} (d : Diff x p n) where
+  abbrev second-units : ℕ
+  second-units = 1000000 * measureOf (c .kind) .perMicro
+
+  leapt : LeapCase (c .status) (c .seconds + 1) → Leapt c x p n
+  leapt (ins e) =
+      record {
+        up = 0;
+        down = 268435456000000;
+        exact = simp e (record { eq = omega (arith, sub d (lit second-units) .eq, measured (c .kind) .perMicro) });
+        second = simp e (omega arith);
+      }
+  leapt (del e f) =
+      record {
+        up = 268435456000000;
+        down = 0;
+        exact = simp (e, f) (record { eq = omega (arith, add d (lit second-units) .eq, measured (c .kind) .perMicro) });
+        second = simp (e, f) (omega arith);
+      }
+  leapt (none e f) = record { up = 0; down = 0; exact = simp (e, f) (record { eq = omega (arith, d .eq) }); second = simp (e, f) (omega arith) }
 
 module _ (c : Clock) (b : Book) (i : Inv c b) (h : 1000000 ≤ microsGrown c) where
   abbrev later : Clock
   later = advanced c (microsGrown c - 1000000)
 
   -- a tick that rolls over
-  roll-near : Near (total (rolledOver later)) (rolloverBook c (tickBook b) .exact) (15 * (b .n + 1))
+  roll-near : Near (pos (perPhase c) *ℤ total (rolledOver later)) (rolloverBook c (ticked c b) .exact) (perPhase c) (b .n + 1)
   unfolding rolledOver
   roll-near =
-      let d = add (lit (4294967296 * told (rolledOver later))) (times 16 (left-diff c b i)) in
+      let d = add (lit (268435456 * told (rolledOver later))) (left-diff c b i) in
+      let w = add (lit (268435456 * told c)) (self (c .phase .0)) in
       let l = leapt c (exact-diff c b i) (leapCase (c .status) (c .seconds + 1)) in
-      let r = rate-diff (c .adjustment .0) (b .share) (b .frequency) (i .rate) in
-      record {
-        high = close (15 * (b .n + 1)) d (l .exact) (omega (arith, l .second, total-diff c b i .eq, r .eq, grown-eq c (i .range), i .near .high, one-part (b .frequency)));
-        low = close (15 * (b .n + 1)) (l .exact) d (omega (arith, l .second, total-diff c b i .eq, r .eq, grown-eq c (i .range), i .near .low, one-part (b .frequency)));
-      }
+      step-near c b i (total (rolledOver later)) (rolloverBook c (ticked c b) .exact) (l .up) (l .down)
+      (record { eq = omega (arith, l .second, d .eq, w .eq, grown-eq c (i .range)) })
+      (l .exact)
 
 -- a refusal is not 0
 pub not-zero : (n : ℕ) → 0 < n → eqb n 0 ≡ false
@@ -122,7 +199,9 @@ module _ (c : Clock) (b : Book) (i : Inv c b) where
 
   set-inv : (s : ℕ) (u : AskedMicros) → SettingCase c s u → Inv (settingOf c s u .clock) (callBook c (call.Setting s u) b)
   set-inv s u (refused n e h) = simp (e, not-zero n h) i
-  set-inv s u (done k e) = simp e (record { range = k; rate = refl; near = record { high = omega arith; low = omega arith } })
+  set-inv s u (done k e) =
+      let l = ap (λ (x : ℕ). (s * 1000000 + u .0) * x) (measured (c .kind) .perMicro) in
+      simp e (record { range = k; rate = refl; near = record { high = omega (arith, l); low = omega (arith, l) } })
 
   -- a request leaves time, share and frequency in force
   requested-inv : (r : Request) (o : Bool) → selectsOffset r ≡ o → Ok (requested c r) → Inv (requested c r) (requestBook r b)
@@ -145,5 +224,9 @@ unfolding afterBy bookFrom
 run-inv c b [] i = i
 run-inv c b (e ∷ es) i = run-inv (next c e) (callBook c e b) es (step-inv c b i e)
 
-pub fresh-inv : Inv freshClock emptyBook
-fresh-inv = record { range = fresh-ok; rate = refl; near = record { high = omega arith; low = omega arith } }
+-- the base alone is the adjustment of no share and no frequency
+base-rate : (d : Device) → d .base .0 ≡ adjustmentFor d (pos 0) (pos 0)
+base-rate d = eq-parts (d .base .0) (adjustmentFor d (pos 0) (pos 0)) (simp parts (omega (arith, zero-div (d .divisor))))
+
+pub fresh-inv : (kind : ℕ) → kind ≤ 1 → Inv (freshClock kind) emptyBook
+fresh-inv kind h = record { range = fresh-ok kind h; rate = base-rate (deviceOf kind); near = record { high = omega arith; low = omega arith } }

@@ -63,4 +63,4 @@ run-held c n [] h = h
 run-held c n (e ∷ es) h = run-held (next c e) (callSince c e n) es (step-held c n h e)
 
 pub interval : IntervalOfEveryList
-interval events = rw (after-singly freshClock events) (run-held freshClock noOffset (singly events) refl)
+interval kind events = rw (after-singly (freshClock kind) events) (run-held (freshClock kind) noOffset (singly kind events) refl)

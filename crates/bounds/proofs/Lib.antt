@@ -1,4 +1,5 @@
 pub mod Runs
+pub mod MeasureLaws
 pub mod Ticked
 pub mod Singly
 pub mod Exact

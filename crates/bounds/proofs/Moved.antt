@@ -1,18 +1,20 @@
--- The second bound: from one rollover to the next there are 255, 256 or 257 ticks, and all shares of one offset have its sign, so that
--- what an offset has moved the clock is within 1/256 of what has been taken off it.
-use mathlib.Core.Path.{_≡_, refl}
+-- The second bound: from one rollover to the next there are `rate` ticks, or one more or fewer, and all shares of one offset have its
+-- sign, so that what an offset has moved the clock is within 1/rate of what has been taken off it.
+use mathlib.Core.Path.{_≡_, refl, ap}
 use mathlib.Core.Bool.{Bool, true, false}
 use mathlib.Core.List.{List, [], _∷_}
 use Prim.Native.Nat.{ℕ, _+_, _-_, _*_, _≤_}
 use native.Mathlib.Omega.{arith}
-use native.Mathlib.Nat.{mul-le-mul-right}
-use lib.IntN.{ℤ, pos, _+ℤ_, _-ℤ_, _*ℤ_}
+use native.Mathlib.Nat.{mul-le-mul-right, lt-of-mul-lt-mul-right}
+use lib.IntN.{ℤ, pos, natAbs, _+ℤ_, _-ℤ_, _*ℤ_}
 use Rattle.integers.proofs.Parts.{posPart, negPart, one-part, abs-parts}
 use Rattle.integers.proofs.Linear.{Diff, self, lit, add, sub, times}
+use Rattle.clock.specs.Device.{deviceOf}
 use Rattle.clock.specs.State.{freshClock}
 use Rattle.clock.specs.Rollover.{rolledOver, share, offsetLeft}
 use Rattle.clock.specs.Tick.{tickOf, microsGrown, phaseLeft}
 use Rattle.clock.specs.Setting.{settingOf}
+use Rattle.clock.specs.declared.device.Device.{Device}
 use Rattle.clock.specs.declared.state.Clock.{Clock}
 use Rattle.clock.specs.declared.units.AskedMicros.{AskedMicros}
 use Rattle.clock.proofs.RollLaws.{rest-posPart, rest-negPart}
@@ -25,59 +27,72 @@ use Rattle.request.proofs.RequestCases as req
 use Rattle.event.specs.declared.event.Call.{Call}
 use Rattle.event.specs.declared.event.Call.the-variants as call
 use Rattle.bounds.specs.Calls.{next, afterBy, after}
+use Rattle.bounds.specs.Measure.{measureOf}
 use Rattle.bounds.specs.Book.{Book, emptyBook, requestBook, callBook, bookFrom}
 use Rattle.bounds.specs.Demand.{takenOff, MovedAsTaken}
+use Rattle.bounds.proofs.MeasureLaws.{shortest, longest, measured}
 use Rattle.bounds.proofs.Exact.{Inv, left-diff, step-inv, not-zero}
 
--- The time since the last rollover after j ticks: a tick takes at least 3,906 us with the least adjustment, and at most 3,906 us with the
--- greatest (2^-28 us).
-pub record Count (us : ℕ) (p : ℤ) (j : ℕ) : Type 0 where
-  pub low : j * 1048340071424 + negPart p ≤ us * 268435456 + posPart p + 268435456
-  pub high : us * 268435456 + posPart p ≤ 1049045762048 + j * 1048811928576 + negPart p
+-- The time since the last rollover after j ticks: at least j of the shortest, at most j of the longest (phase units).
+pub record Count (d : Device) (us : ℕ) (p : ℤ) (j : ℕ) : Type 0 where
+  pub low : j * shortest d + negPart p ≤ us * 268435456 + posPart p + 268435456
+  pub high : us * 268435456 + posPart p ≤ 268435456 * (d .tick .0 + 2) + j * longest d + negPart p
+
+-- the device of a clock
+abbrev device : Clock → Device
+device c = deviceOf (c .kind)
 
 module _ (c : Clock) (b : Book) (i : Inv c b) (j : ℕ) where
-  count-step : Count (c .micros .0) (c .phase .0) j → Count (microsGrown c) (phaseLeft c) (j + 1)
+  count-step : Count (device c) (c .micros .0) (c .phase .0) j → Count (device c) (microsGrown c) (phaseLeft c) (j + 1)
   count-step h =
+      let t = measured (c .kind) in
       record {
-        low = omega (arith, left-diff c b i .eq, grown-eq c (i .range), i .range .adjustment, h);
-        high = omega (arith, left-diff c b i .eq, grown-eq c (i .range), i .range .adjustment, h);
+        low = omega (arith, left-diff c b i .eq, grown-eq c (i .range), i .range .adjustment, t .short, h);
+        high = omega (arith, left-diff c b i .eq, grown-eq c (i .range), i .range .adjustment, t .long, h);
       }
 
-  ticks-least : Count (c .micros .0) (c .phase .0) j → 1000000 ≤ microsGrown c → 255 ≤ j + 1
-  ticks-least h l = omega (arith, count-step h .high, left-parts c (i .range))
+  -- at least rate - 1 ticks
+  pub ticks-least : Count (device c) (c .micros .0) (c .phase .0) j → 1000000 ≤ microsGrown c → device c .rate ≤ j + 2
+  ticks-least h l =
+      let m = lt-of-mul-lt-mul-right (longest (device c)) {m = device c .rate} {n = j + 3} (omega (arith, count-step h .high, left-parts c (i .range), measured (c .kind) .fewest)) in
+      omega (arith, m)
 
-  ticks-most : Count (c .micros .0) (c .phase .0) j → j + 1 ≤ 257
-  ticks-most h = omega (arith, h .low, i .range .phase, i .range .micros)
+  -- at most rate + 1
+  pub ticks-most : Count (device c) (c .micros .0) (c .phase .0) j → j ≤ device c .rate
+  ticks-most h =
+      let m = lt-of-mul-lt-mul-right (shortest (device c)) {m = j} {n = device c .rate + 1} (omega (arith, h .low, i .range .phase, i .range .micros, measured (c .kind) .mostly)) in
+      omega (arith, m)
 
-count-start : (c : Clock) (b : Book) → Inv c b → 1000000 ≤ microsGrown c → Count (microsGrown c - 1000000) (phaseLeft c) 0
+count-start : (c : Clock) (b : Book) → Inv c b → 1000000 ≤ microsGrown c → Count (device c) (microsGrown c - 1000000) (phaseLeft c) 0
 count-start c b i l =
     record {
       low = omega (arith, left-parts c (i .range));
       high = omega (arith, left-parts c (i .range), grown-most c (i .range));
     }
 
--- One sign of an offset: a asked, l left, o the own share, m moved after j ticks since the last rollover; `old` is what earlier shares took.
-pub record Side (a l o j m : ℕ) : Type 0 where
+-- One sign of an offset at rate r: a asked, l left, o the own share, m moved after j ticks since the last rollover; `old` is what earlier
+-- shares took.
+pub record Side (r a l o j m : ℕ) : Type 0 where
   pub old : ℕ
   pub whole : old + o + l ≡ a
-  pub high : m ≤ 257 * old + j * o
-  pub low : 255 * old + j * o ≤ m
+  pub high : m ≤ r * old + old + j * o
+  pub low : r * old + j * o ≤ m + old
 
-side-start : (a : ℕ) → Side a a 0 0 0
-side-start a = record { old = 0; whole = omega arith; high = omega arith; low = omega arith }
+side-start : (r a : ℕ) → Side r a a 0 0 0
+side-start r a = record { old = 0; whole = omega arith; high = omega arith; low = omega arith }
 
-side-tick : {a l o j m : ℕ} → Side a l o j m → Side a l o (j + 1) (m + o)
+side-tick : {r a l o j m : ℕ} → Side r a l o j m → Side r a l o (j + 1) (m + o)
 side-tick s = record { old = s .old; whole = s .whole; high = omega (arith, s .high); low = omega (arith, s .low) }
 
--- the own share was in force for 255 to 257 ticks, or is 0
-record Ticks (o j : ℕ) : Type 0 where
-  pub least : 255 * o ≤ (j + 1) * o
-  pub most : (j + 1) * o ≤ 257 * o
+-- the own share was in force for rate - 1 to rate + 1 ticks, or is 0
+record Ticks (r o j : ℕ) : Type 0 where
+  pub least : r * o ≤ (j + 2) * o
+  pub most : j * o ≤ r * o
 
-side-paid : {a l o j m : ℕ} → Side a l o j m → Ticks o j → (m + o + 257 * l ≤ 257 * a) × (255 * a ≤ m + o + 255 * l)
-side-paid s t = omega (arith, s .whole, s .high, s .low, t .least, t .most)
+side-paid : {r a l o j m : ℕ} → Side r a l o j m → Ticks r o j → (m + o + (r + 1) * l ≤ (r + 1) * a) × (r * a + l ≤ m + o + r * l + a)
+side-paid {r} s t = omega (arith, s .whole, ap (λ (x : ℕ). r * x) (s .whole), s .high, s .low, t .least, t .most)
 
-side-roll : {a l o j m : ℕ} (l' o' : ℕ) → o' + l' ≡ l → Ticks o j → Side a l o j m → Side a l' o' 0 (m + o)
+side-roll : {r a l o j m : ℕ} (l' o' : ℕ) → o' + l' ≡ l → Ticks r o j → Side r a l o j m → Side r a l' o' 0 (m + o)
 side-roll {o = o} l' o' e t s =
     record {
       old = s .old + o;
@@ -87,33 +102,33 @@ side-roll {o = o} l' o' e t s =
     }
 
 -- no own share since the last offset request or setting, or a count of ticks since the last rollover
-pub data Pace (us : ℕ) (p own : ℤ) (j : ℕ) : Type 0 where
-  idle : posPart own ≡ 0 → negPart own ≡ 0 → Pace us p own j
-  counted : Count us p j → Pace us p own j
+pub data Pace (d : Device) (us : ℕ) (p own : ℤ) (j : ℕ) : Type 0 where
+  idle : posPart own ≡ 0 → negPart own ≡ 0 → Pace d us p own j
+  counted : Count d us p j → Pace d us p own j
 
 pub record Paid (c : Clock) (b : Book) : Type 0 where
   pub j : ℕ
   pub mP : ℕ
   pub mN : ℕ
   pub moved : Diff (b .moved) mP mN
-  pub P : Side (posPart (b .asked)) (posPart (c .offset .0)) (posPart (b .ownShare)) j mP
-  pub N : Side (negPart (b .asked)) (negPart (c .offset .0)) (negPart (b .ownShare)) j mN
-  pub pace : Pace (c .micros .0) (c .phase .0) (b .ownShare) j
+  pub P : Side (device c .rate) (posPart (b .asked)) (posPart (c .offset .0)) (posPart (b .ownShare)) j mP
+  pub N : Side (device c .rate) (negPart (b .asked)) (negPart (c .offset .0)) (negPart (b .ownShare)) j mN
+  pub pace : Pace (device c) (c .micros .0) (c .phase .0) (b .ownShare) j
 
-idle-ticks : (o j : ℕ) → o ≡ 0 → Ticks o j
-idle-ticks o j e = record { least = rw e (omega arith); most = rw e (omega arith) }
+idle-ticks : (r o j : ℕ) → o ≡ 0 → Ticks r o j
+idle-ticks r o j e = record { least = rw e (omega arith); most = rw e (omega arith) }
 
 module _ (c : Clock) (b : Book) (i : Inv c b) where
-  counted-ticks : (o j : ℕ) → Count (c .micros .0) (c .phase .0) j → 1000000 ≤ microsGrown c → Ticks o j
+  counted-ticks : (o j : ℕ) → Count (device c) (c .micros .0) (c .phase .0) j → 1000000 ≤ microsGrown c → Ticks (device c .rate) o j
   counted-ticks o j h l = record { least = mul-le-mul-right o (ticks-least c b i j h l); most = mul-le-mul-right o (ticks-most c b i j h) }
 
   -- of either part of the own share, which is 0 where there is none
-  ticks-of : {o : ℕ} (j : ℕ) → Pace (c .micros .0) (c .phase .0) (b .ownShare) j
-      → (posPart (b .ownShare) ≡ 0 → negPart (b .ownShare) ≡ 0 → o ≡ 0) → 1000000 ≤ microsGrown c → Ticks o j
-  ticks-of j (idle p n) none l = idle-ticks _ j (none p n)
+  ticks-of : {o : ℕ} (j : ℕ) → Pace (device c) (c .micros .0) (c .phase .0) (b .ownShare) j
+      → (posPart (b .ownShare) ≡ 0 → negPart (b .ownShare) ≡ 0 → o ≡ 0) → 1000000 ≤ microsGrown c → Ticks (device c .rate) o j
+  ticks-of j (idle p n) none l = idle-ticks _ _ j (none p n)
   ticks-of j (counted h) none l = counted-ticks _ j h l
 
-  pace-tick : (j : ℕ) → Pace (c .micros .0) (c .phase .0) (b .ownShare) j → Pace (microsGrown c) (phaseLeft c) (b .ownShare) (j + 1)
+  pace-tick : (j : ℕ) → Pace (device c) (c .micros .0) (c .phase .0) (b .ownShare) j → Pace (device c) (microsGrown c) (phaseLeft c) (b .ownShare) (j + 1)
   pace-tick j (idle p n) = idle p n
   pace-tick j (counted h) = counted (count-step c b i j h)
 
@@ -146,7 +161,7 @@ module _ (c : Clock) (b : Book) (i : Inv c b) where
 
   set-paid : (s : ℕ) (u : AskedMicros) → SettingCase c s u → Paid c b → Paid (settingOf c s u .clock) (callBook c (call.Setting s u) b)
   set-paid s u (refused n e h) p = simp (e, not-zero n h) p
-  set-paid s u (done k e) p = simp e (record { j = 0; mP = 0; mN = 0; moved = lit 0; P = side-start 0; N = side-start 0; pace = idle refl refl })
+  set-paid s u (done k e) p = simp e (record { j = 0; mP = 0; mN = 0; moved = lit 0; P = side-start _ 0; N = side-start _ 0; pace = idle refl refl })
 
   requested-paid : (r : Request) (o : Bool) → selectsOffset r ≡ o → Paid c b → Paid (requested c r) (requestBook r b)
   unfolding requested
@@ -157,8 +172,8 @@ module _ (c : Clock) (b : Book) (i : Inv c b) where
         mP = 0;
         mN = 0;
         moved = lit 0;
-        P = side-start (posPart (r .offset .0 *ℤ pos 16384));
-        N = side-start (negPart (r .offset .0 *ℤ pos 16384));
+        P = side-start _ (posPart (r .offset .0 *ℤ pos 16384));
+        N = side-start _ (negPart (r .offset .0 *ℤ pos 16384));
         pace = idle refl refl;
       })
   requested-paid r false t p = simp t (record { j = p .j; mP = p .mP; mN = p .mN; moved = p .moved; P = p .P; N = p .N; pace = p .pace })
@@ -174,21 +189,24 @@ module _ (c : Clock) (b : Book) (i : Inv c b) where
   step-paid call.Reading p = p
 
   -- at a rollover
-  pub paid-bound : Paid c b → 1000000 ≤ microsGrown c
-      → MovedAsTaken (b .moved +ℤ b .ownShare) (takenOff c b)
-  paid-bound p l =
+  paid-by-rate : Paid c b → 1000000 ≤ microsGrown c
+      → natAbs ((b .moved +ℤ b .ownShare) -ℤ pos (device c .rate) *ℤ takenOff c b) ≤ natAbs (takenOff c b)
+  paid-by-rate p l =
       let t = takenOff c b in
-      let z = (b .moved +ℤ b .ownShare) -ℤ pos 256 *ℤ t in
+      let z = (b .moved +ℤ b .ownShare) -ℤ pos (device c .rate) *ℤ t in
       let dt = sub (self (b .asked)) (self (c .offset .0)) in
-      let dz = sub (add (p .moved) (self (b .ownShare))) (times 256 dt) in
+      let dz = sub (add (p .moved) (self (b .ownShare))) (times (device c .rate) dt) in
       let u = side-paid (p .P) (ticks-of (p .j) (p .pace) (λ zero _. zero) l) in
       let v = side-paid (p .N) (ticks-of (p .j) (p .pace) (λ _ zero. zero) l) in
       omega (arith, abs-parts z, abs-parts t, dz .eq, dt .eq, u, v, p .P .whole, p .N .whole, one-part z, one-part t, one-part (b .asked))
+
+  pub paid-bound : Paid c b → 1000000 ≤ microsGrown c → MovedAsTaken (measureOf (c .kind)) (b .moved +ℤ b .ownShare) (takenOff c b)
+  paid-bound p l = rw (measured (c .kind) .parts) (paid-by-rate p l)
 
 pub run-paid : (c : Clock) (b : Book) (es : List Call) → Inv c b → Paid c b → Paid (after c es) (bookFrom c b es)
 unfolding afterBy bookFrom
 run-paid c b [] i p = p
 run-paid c b (e ∷ es) i p = run-paid (next c e) (callBook c e b) es (step-inv c b i e) (step-paid c b i e p)
 
-pub fresh-paid : Paid freshClock emptyBook
-fresh-paid = record { j = 0; mP = 0; mN = 0; moved = lit 0; P = side-start 0; N = side-start 0; pace = idle refl refl }
+pub fresh-paid : (kind : ℕ) → Paid (freshClock kind) emptyBook
+fresh-paid kind = record { j = 0; mP = 0; mN = 0; moved = lit 0; P = side-start _ 0; N = side-start _ 0; pace = idle refl refl }

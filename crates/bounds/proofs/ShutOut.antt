@@ -6,6 +6,7 @@ use Prim.Native.Nat.{ℕ, _≤_, _<_}
 use native.Mathlib.Omega.{arith}
 use lib.Dec.{leb, ltb}
 use borrow.Author.Tests.{leb-false, ltb-false}
+use Rattle.clock.specs.Device.{deviceOf}
 use Rattle.clock.specs.State.{inRange}
 use Rattle.clock.specs.Reading.{readingOf, readingRefusal}
 use Rattle.clock.specs.Rollover.{rolledOver}
@@ -18,7 +19,8 @@ use Rattle.event.specs.declared.event.Event.the-variants.{Call, CatchUp}
 use Rattle.bounds.specs.Calls.{afterBy, ticksAmong, neitherSetNorInserted}
 use Rattle.bounds.specs.Singly.{singleTicks, singlyFrom, asEvents}
 use Rattle.bounds.specs.Book.{bookFrom}
-use Rattle.bounds.specs.WrongClocks.{ShutOut}
+use Rattle.bounds.specs.Measure.{measureOf}
+use Rattle.bounds.specs.WrongClocks.{ShutOutOfEachKind}
 
 not-below : {a b : ℕ} → ltb a b ≡ false → a < b → ⊥
 not-below {a} {b} e h = omega (arith, ltb-false a b e)
@@ -26,13 +28,21 @@ not-below {a} {b} e h = omega (arith, ltb-false a b e)
 not-most : {a b : ℕ} → leb a b ≡ false → a ≤ b → ⊥
 not-most {a} {b} e h = omega (arith, leb-false a b e)
 
-pub shut-out : ShutOut
-unfolding inRange readingOf readingRefusal rolledOver ticked tickRefusal tickOf ranOf catchUpOf settingRefusal settingOf requestRefusal requested requestOf afterBy ticksAmong neitherSetNorInserted singleTicks singlyFrom asEvents bookFrom
-shut-out =
+pub shut-out : ShutOutOfEachKind
+unfolding deviceOf measureOf inRange readingOf readingRefusal rolledOver ticked tickRefusal tickOf ranOf catchUpOf settingRefusal settingOf requestRefusal requested requestOf afterBy ticksAmong neitherSetNorInserted singleTicks singlyFrom asEvents bookFrom
+shut-out = (
     record {
       refusing = λ near. not-below refl near;
       zeros = λ near. not-below refl near;
       idle = λ b. not-most refl (b [] (Call Tick ∷ []) [] refl refl);
       pretending = λ near. not-below refl near;
       counting = λ b. not-most refl (b [] (CatchUp 1 false ∷ []) [] refl refl);
-    }
+    },
+    record {
+      refusing = λ near. not-below refl near;
+      zeros = λ near. not-below refl near;
+      idle = λ b. not-most refl (b [] (Call Tick ∷ []) [] refl refl);
+      pretending = λ near. not-below refl near;
+      counting = λ b. not-most refl (b [] (CatchUp 1 false ∷ []) [] refl refl);
+    },
+)

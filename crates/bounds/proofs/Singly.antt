@@ -1,6 +1,7 @@
 -- A list of events and its ticks made singly: clock, answers and book agree.
 use mathlib.Core.Path.{_≡_, refl, sym, _∙_, ap, subst}
 use mathlib.Core.List.{List, [], _∷_, _++_, append-assoc, append-nil}
+use Prim.Native.Nat.{ℕ}
 use Rattle.clock.specs.State.{freshClock}
 use Rattle.clock.specs.declared.state.Clock.{Clock}
 use Rattle.event.specs.Event.{answerOf, stepOf}
@@ -29,27 +30,27 @@ singly-append c (e ∷ xs) ys =
     ap (λ (ks : List call.Call). singleCalls c e ++ ks) (singly-append (stepOf c e .clock) xs ys)
     ∙ sym (append-assoc (singleCalls c e) (singlyFrom (stepOf c e .clock) xs) _)
 
-module _ (before : List Event) (e : Event) where
-  singly-last : singly (before ++ (e ∷ [])) ≡ singly before ++ singleCalls (clockAfter before) e
+module _ (kind : ℕ) (before : List Event) (e : Event) where
+  singly-last : singly kind (before ++ (e ∷ [])) ≡ singly kind before ++ singleCalls (clockAfter kind before) e
   unfolding singlyFrom
   singly-last =
-      singly-append freshClock before (e ∷ [])
-      ∙ ap (λ (ks : List call.Call). singly before ++ ks) (append-nil (singleCalls (clockAfter before) e))
+      singly-append (freshClock kind) before (e ∷ [])
+      ∙ ap (λ (ks : List call.Call). singly kind before ++ ks) (append-nil (singleCalls (clockAfter kind before) e))
 
-  pub book-last : bookOf (before ++ (e ∷ [])) ≡ bookFrom (clockAfter before) (bookOf before) (singleCalls (clockAfter before) e)
+  pub book-last : bookOf kind (before ++ (e ∷ [])) ≡ bookFrom (clockAfter kind before) (bookOf kind before) (singleCalls (clockAfter kind before) e)
   book-last =
-      ap (λ (ks : List call.Call). bookFrom freshClock emptyBook ks) singly-last
-      ∙ bookFrom-append freshClock emptyBook (singly before) (singleCalls (clockAfter before) e)
-      ∙ ap (λ (c : Clock). bookFrom c (bookOf before) (singleCalls (clockAfter before) e)) (sym (after-singly freshClock before))
+      ap (λ (ks : List call.Call). bookFrom (freshClock kind) emptyBook ks) singly-last
+      ∙ bookFrom-append (freshClock kind) emptyBook (singly kind before) (singleCalls (clockAfter kind before) e)
+      ∙ ap (λ (c : Clock). bookFrom c (bookOf kind before) (singleCalls (clockAfter kind before) e)) (sym (after-singly (freshClock kind) before))
 
-  in-place : (later : List Event) → InPlace before later e
+  in-place : (later : List Event) → InPlace kind before later e
   unfolding singlyFrom afterBy
   in-place later =
       record {
-        place = rw (after-append stepOf freshClock before (e ∷ [])) (singly-append freshClock before (e ∷ later));
-        answers = subst (λ (c : Clock). AnswersAs (clockAfter before) c e) (after-singly freshClock before) (answers-as (clockAfter before) e);
+        place = rw (after-append stepOf (freshClock kind) before (e ∷ [])) (singly-append (freshClock kind) before (e ∷ later));
+        answers = subst (λ (c : Clock). AnswersAs (clockAfter kind before) c e) (after-singly (freshClock kind) before) (answers-as (clockAfter kind before) e);
         book = book-last;
       }
 
 pub made-singly : EveryListMadeSingly
-made-singly events = record { clock = after-singly freshClock events; each = λ before later e _. in-place before e later }
+made-singly kind events = record { clock = after-singly (freshClock kind) events; each = λ before later e _. in-place kind before e later }

@@ -1,5 +1,6 @@
 -- Every marked case holds: computed.
 use mathlib.Core.Path.{refl}
+use Rattle.clock.specs.Device.{deviceOf}
 use Rattle.clock.specs.State.{inRange}
 use Rattle.clock.specs.Rollover.{rolledOver}
 use Rattle.clock.specs.Tick.{ticked, tickRefusal, tickOf}
@@ -8,5 +9,5 @@ use Rattle.request.specs.Request.{requestRefusal, requested, requestOf}
 use Rattle.bounds.specs.Cases.{MarkedCases}
 
 pub marked-cases : MarkedCases
-unfolding inRange rolledOver ticked tickRefusal tickOf settingRefusal settingOf requestRefusal requested requestOf
+unfolding deviceOf inRange rolledOver ticked tickRefusal tickOf settingRefusal settingOf requestRefusal requested requestOf
 marked-cases = refl

@@ -1,7 +1,7 @@
 -- "The book of demand 3": what a list of calls should have come to, by the calls alone. It runs the rules itself, from a fresh
 -- clock over the same list. `rules` is the clock of that run: its phase and adjustment only decide which ticks roll over or are
--- refused, and no entry takes them.
-use Prim.Native.Nat.{ℕ, _+_, _*_, _/_, _^_}
+-- refused, and no entry takes them. What a tick is worth, and in which units, is the measure of the clock's kind.
+use Prim.Native.Nat.{ℕ, _+_, _*_}
 use mathlib.Core.Bool.{cond}
 use mathlib.Core.List.{List, [], _∷_}
 use lib.IntN.{ℤ, pos, _+ℤ_, _-ℤ_, _*ℤ_}
@@ -17,9 +17,10 @@ use Rattle.event.specs.declared.event.Call.{Call}
 use Rattle.event.specs.declared.event.Call.the-variants.{Tick, Setting, Reading}
 use Rattle.event.specs.declared.event.Call.the-variants as call
 use Rattle.bounds.specs.Calls.{next, accepted, insertsSecond, deletesSecond}
+use Rattle.bounds.specs.Measure.{Measure, measureOf, perFrequency, perShare}
 
 pub record Book : Type 0 where
-  -- exact time (2^-32 us)
+  -- exact time (units of the measure: 2^-32 us, or 2^-34 us)
   pub exact : ℤ
   -- ticks since the last setting or the start
   pub n : ℕ
@@ -30,7 +31,7 @@ pub record Book : Type 0 where
   pub share : ℤ
   -- own share: that part of the share in force which belongs to the last offset request (offset units)
   pub ownShare : ℤ
-  -- what the last offset request has moved the clock (1/256 offset unit)
+  -- what the last offset request has moved the clock (1/256 offset unit, or 1/1,024)
   pub moved : ℤ
   -- what it asked for (offset units)
   pub asked : ℤ
@@ -39,20 +40,12 @@ pub record Book : Type 0 where
 abbrev pub emptyBook : Book
 emptyBook = record { exact = pos 0; n = 0; frequency = pos 0; share = pos 0; ownShare = pos 0; moved = pos 0; asked = pos 0 }
 
--- units of exact time in a microsecond
-abbrev pub exactPerMicro : ℕ
-exactPerMicro = 2 ^ 32
-
--- "3,906 1/4 us" (2^-32 us)
-abbrev pub tickTime : ℕ
-tickTime = 3906 * exactPerMicro + exactPerMicro / 4
-
 -- "Tick: n + 1. Exact time + 3,906 1/4 us + 1/256 of the frequency in force (as us per second) + 1/256 of the share in force.
--- Moved + own share/256." 1/256 of a frequency unit is 2^-32 us a tick, and 1/256 of an offset unit is 2^-22 us.
-abbrev pub tickBook : Book → Book
-tickBook b =
+-- Moved + own share/256." Of the second device "976 9/16 us for each tick; 1/1,024 in place of 1/256".
+abbrev pub tickBook : Measure → Book → Book
+tickBook m b =
     record {
-      exact = b .exact +ℤ pos tickTime +ℤ b .frequency +ℤ pos (2 ^ 10) *ℤ b .share;
+      exact = b .exact +ℤ pos (m .tick) +ℤ pos perFrequency *ℤ b .frequency +ℤ pos perShare *ℤ b .share;
       n = b .n + 1;
       frequency = b .frequency;
       share = b .share;
@@ -61,12 +54,11 @@ tickBook b =
       asked = b .asked;
     }
 
--- "Exact time - 1,000,000 us if INS steps (an inserted second), + 1,000,000 us if DEL steps." (2^-32 us)
+-- "Exact time - 1,000,000 us if INS steps (an inserted second), + 1,000,000 us if DEL steps." (units of exact time)
 abbrev pub leapExact : Clock → ℤ → ℤ
 leapExact rules exact =
-    cond (insertsSecond rules)
-    (exact -ℤ pos (microsPerSecond * exactPerMicro))
-    (cond (deletesSecond rules) (exact +ℤ pos (microsPerSecond * exactPerMicro)) exact)
+    let second = microsPerSecond * measureOf (rules .kind) .perMicro in
+    cond (insertsSecond rules) (exact -ℤ pos second) (cond (deletesSecond rules) (exact +ℤ pos second) exact)
 
 -- "If the tick rolls over, [..] Then share and own share become the rollover's share, and the frequency in force becomes the
 -- present one."
@@ -86,7 +78,7 @@ rolloverBook rules b =
 abbrev pub settingBook : Clock → ℕ → AskedMicros → Book
 settingBook rules s u =
     record {
-      exact = pos ((s * microsPerSecond + u .0) * exactPerMicro);
+      exact = pos ((s * microsPerSecond + u .0) * measureOf (rules .kind) .perMicro);
       n = 0;
       frequency = rules .frequency .0;
       share = pos 0;
@@ -115,7 +107,9 @@ requestBook r b = cond (selectsOffset r) (offsetBook r b) b
 
 -- one call; "Other requests, readings, refused calls: nothing."
 abbrev pub callBook : Clock → Call → Book → Book
-callBook rules Tick b = cond (accepted rules Tick) (cond (rollsOver rules) (rolloverBook rules (tickBook b)) (tickBook b)) b
+callBook rules Tick b =
+    let ticked = tickBook (measureOf (rules .kind)) b in
+    cond (accepted rules Tick) (cond (rollsOver rules) (rolloverBook rules ticked) ticked) b
 callBook rules (Setting s u) b = cond (accepted rules (Setting s u)) (settingBook rules s u) b
 callBook rules (call.Request r) b = cond (accepted rules (call.Request r)) (requestBook r b) b
 callBook rules Reading b = b
@@ -125,6 +119,6 @@ unfoldable pub bookFrom : Clock → Book → List Call → Book
 bookFrom rules b [] = b
 bookFrom rules b (e ∷ es) = bookFrom (next rules e) (callBook rules e b) es
 
--- the book of a list of calls
-abbrev pub bookAfter : List Call → Book
-bookAfter calls = bookFrom freshClock emptyBook calls
+-- the book of a list of calls on a fresh clock of a kind
+abbrev pub bookAfter : ℕ → List Call → Book
+bookAfter kind calls = bookFrom (freshClock kind) emptyBook calls

@@ -22,13 +22,13 @@ unfoldable pub afterBy : {E : Type 0} → (Clock → E → Stepped) → Clock �
 afterBy answers c [] = c
 afterBy answers c (e ∷ es) = afterBy answers (answers c e .clock) es
 
--- the clock after a list of events "on a clock that starts fresh"
-abbrev pub clockBy : Answers → List Event → Clock
-clockBy answers events = afterBy answers freshClock events
+-- the clock after a list of events "on a clock that starts fresh", of a kind
+abbrev pub clockBy : Answers → ℕ → List Event → Clock
+clockBy answers kind events = afterBy answers (freshClock kind) events
 
 -- The same by the rules.
-abbrev pub clockAfter : List Event → Clock
-clockAfter events = clockBy stepOf events
+abbrev pub clockAfter : ℕ → List Event → Clock
+clockAfter kind events = clockBy stepOf kind events
 
 -- Single calls, by the rules.
 abbrev pub next : Clock → Call → Clock

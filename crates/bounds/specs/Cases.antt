@@ -1,6 +1,6 @@
--- "Marked cases (proved together)", the two edges at the last second, and the interval of document 02: a table with a row for each, and what
--- it means that a row holds. A row starts at a fresh clock, but for the fields that it names. Where it says "rollover", ticks are made up to
--- and with the next that rolls over.
+-- "Marked cases (proved together)", the two edges at the last second, and the interval and the second device of document 02: a table with a
+-- row for each, and what it means that a row holds. A row starts at a fresh clock of kind 0, or of the kind that it names, but for the fields
+-- that it names. Where it says "rollover", ticks are made up to and with the next that rolls over.
 use Prim.Native.Nat.{ℕ, zero, suc}
 use mathlib.Core.Path.{_≡_}
 use mathlib.Core.Bool.{Bool, true, _&&_, cond}
@@ -9,6 +9,7 @@ use lib.Dec.{eqb}
 use lib.IntN.{ℤ, pos, negℤ}
 use lib.Signed.{leZ}
 use Rattle.clock.specs.Units.{offsetUnits, phaseUnits, frequencyUnits}
+use Rattle.clock.specs.Device.{kind256, kind1024}
 use Rattle.clock.specs.State.{freshClock, errorsOf, whole, statusOk, statusIns, statusDel, statusOop}
 use Rattle.clock.specs.Tick.{carry, rollsOver}
 use Rattle.clock.specs.declared.state.Clock.{Clock}
@@ -20,6 +21,7 @@ use Rattle.bounds.specs.Calls.{next}
 
 -- The fields of a clock that a row names: those that count, and those that are signed.
 pub data CountField : Type 0 where
+  kind : CountField
   seconds : CountField
   constant : CountField
   updated : CountField
@@ -38,6 +40,7 @@ countCode constant = 1
 countCode updated = 2
 countCode interval = 3
 countCode status = 4
+countCode kind = 5
 
 abbrev pub signedCode : SignedField → ℕ
 signedCode phase = 0
@@ -73,27 +76,29 @@ signedOr (signedStart g z ∷ ss) f d = cond (eqb (signedCode g) (signedCode f))
 -- a fresh clock, but for the fields of a row
 abbrev pub given : List Start → Clock
 given ss =
+    let fresh = freshClock (countOr ss kind kind256) in
     whole
     (record {
+      kind = fresh .kind;
       time =
           record {
-            seconds = countOr ss seconds (freshClock .seconds);
-            micros = freshClock .micros;
-            phase = phaseUnits (signedOr ss phase (freshClock .phase .0));
+            seconds = countOr ss seconds (fresh .seconds);
+            micros = fresh .micros;
+            phase = phaseUnits (signedOr ss phase (fresh .phase .0));
           };
       correction =
           record {
-            offset = offsetUnits (signedOr ss left (freshClock .offset .0));
-            adjustment = phaseUnits (signedOr ss adjustment (freshClock .adjustment .0));
+            offset = offsetUnits (signedOr ss left (fresh .offset .0));
+            adjustment = phaseUnits (signedOr ss adjustment (fresh .adjustment .0));
           };
       tuning =
           record {
-            frequency = frequencyUnits (signedOr ss frequency (freshClock .frequency .0));
-            constant = countOr ss constant (freshClock .constant);
+            frequency = frequencyUnits (signedOr ss frequency (fresh .frequency .0));
+            constant = countOr ss constant (fresh .constant);
           };
-      update = record { updated = countOr ss updated (freshClock .updated); interval = countOr ss interval (freshClock .interval) };
-      errors = errorsOf freshClock;
-      status = countOr ss status (freshClock .status);
+      update = record { updated = countOr ss updated (fresh .updated); interval = countOr ss interval (fresh .interval) };
+      errors = errorsOf fresh;
+      status = countOr ss status (fresh .status);
     })
 
 -- after some calls: the clock that the last one got, what it was refused with, and the clock that it handed back
@@ -115,7 +120,7 @@ abbrev pub tickBy : ℕ → Clock → Seen
 tickBy zero c = seen c call.Tick
 tickBy (suc n) c = tickBy n (next c call.Tick)
 
--- at most n ticks more; from one rollover to the next there are at most 257
+-- at most n ticks more; from one rollover to the next there are at most 257, or 1,025
 abbrev pub rollBy : ℕ → Clock → Seen
 rollBy zero c = seen c call.Tick
 rollBy (suc n) c = cond (rollsOver c) (seen c call.Tick) (rollBy n (next c call.Tick))
@@ -124,7 +129,7 @@ abbrev pub does : Doing → Clock → Seen
 does (callOf e) c = seen c e
 does (tickTimes zero) c = record { got = c; refused = 0; clock = c }
 does (tickTimes (suc n)) c = tickBy n c
-does rollover c = rollBy 256 c
+does rollover c = rollBy 1024 c
 
 -- a rollover that is to be done is one: its tick is accepted and rolls over
 abbrev pub isDone : Doing → Seen → Bool
@@ -149,6 +154,7 @@ abbrev pub _isℤ_ : SignedField → ℤ → Value
 f isℤ z = signedIs f z
 
 abbrev pub countOf : CountField → Clock → ℕ
+countOf kind c = c .kind
 countOf seconds c = c .seconds
 countOf constant c = c .constant
 countOf updated c = c .updated
@@ -227,8 +233,8 @@ abbrev pub set : ℕ → ℕ → Call
 set s u = call.Setting s (record { 0 = u })
 
 -- The table of document 01, row by row ("frequency unchanged" at two frequencies; document 02: "the marked interval 5,000 becomes 1,024"),
--- after it the two edges, and then document 02's interval: across an inserted and a deleted second, up to its limit, set back by an accepted
--- offset alone, and none without one.
+-- after it the two edges, and then document 02's: the interval across an inserted and a deleted second, up to its limit, set back by an
+-- accepted offset alone, and none without one; and the second device by the rows of the first, its kind kept by a setting, and no third.
 abbrev pub markedCases : List Case
 markedCases =
     row []
@@ -280,6 +286,20 @@ markedCases =
     ∷ callOf (asks (pos 1000)) then (refusal 0 ∷ updated is 1 ∷ interval is 0 ∷ [])
     ∷ rollover then (interval is 1 ∷ [])
     ∷ callOf (set 0 0) then (refusal 0 ∷ updated is 0 ∷ interval is 0 ∷ []) ∷ [])
+    ∷ row (kind ≔ kind1024 ∷ [])
+    (tickTimes 1023 then (seconds is 0 ∷ micros 999023 ∷ phase isℤ pos 117440512 ∷ []) ∷ [])
+    ∷ row (kind ≔ kind1024 ∷ [])
+    (tickTimes 1024 then (seconds is 1 ∷ micros 0 ∷ phase isℤ pos 0 ∷ []) ∷ [])
+    ∷ row (kind ≔ kind1024 ∷ constant ≔ 0 ∷ frequency ≔ℤ pos 0 ∷ [])
+    (callOf (asks (pos 1000)) then (refusal 0 ∷ [])
+    ∷ rollover then (seconds is 1 ∷ left isℤ pos 16368000 ∷ adjustment isℤ pos 151250944 ∷ []) ∷ [])
+    ∷ row (kind ≔ kind1024 ∷ constant ≔ 4 ∷ frequency ≔ℤ pos 0 ∷ [])
+    (callOf (asks (pos 1000)) then (refusal 0 ∷ [])
+    ∷ rollover then (seconds is 1 ∷ left isℤ pos 16383000 ∷ adjustment isℤ pos 151010944 ∷ []) ∷ [])
+    ∷ row (kind ≔ kind1024 ∷ frequency ≔ℤ pos 6400 ∷ [])
+    (callOf (set 5 0) then (refusal 0 ∷ kind is kind1024 ∷ adjustment isℤ pos 150995044 ∷ []) ∷ [])
+    ∷ row (kind ≔ 2 ∷ [])
+    (callOf (set 5 0) then (refusal 1 ∷ kind is 2 ∷ seconds is 0 ∷ []) ∷ [])
     ∷ []
 
 abbrev pub MarkedCases : Type 0

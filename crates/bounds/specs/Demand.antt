@@ -1,10 +1,11 @@
--- Demand 3, the whole of it, as one statement about a list of events.
-use Prim.Native.Nat.{ℕ, _+_, _*_, _≤_, _<_}
+-- Demand 3, the whole of it, as one statement about a list of events on a fresh clock of either kind.
+use Prim.Native.Nat.{ℕ, _+_, _*_, _/_, _≤_, _<_}
 use mathlib.Core.Path.{_≡_}
 use mathlib.Core.Bool.{Bool, true}
 use mathlib.Core.List.{List, [], _∷_, _++_}
 use lib.IntN.{ℤ, pos, natAbs, _-ℤ_, _*ℤ_}
-use Rattle.clock.specs.Units.{microsPerSecond}
+use Rattle.clock.specs.Units.{microsPerSecond, phaseUnitsPerMicro}
+use Rattle.clock.specs.Device.{kindRange}
 use Rattle.clock.specs.Ticks.{catchUpOf}
 use Rattle.clock.specs.declared.state.Clock.{Clock}
 use Rattle.clock.specs.declared.reading.Reading as shows
@@ -14,7 +15,8 @@ use Rattle.event.specs.declared.event.Event.{Event}
 use Rattle.event.specs.declared.event.Event.the-variants.{Call, CatchUp}
 use Rattle.bounds.specs.Calls.{Answers, clockBy, clockAfter, rolls, ticksAmong, neitherSetNorInserted}
 use Rattle.bounds.specs.Singly.{singleTicks, singlyFrom, singly, asEvents}
-use Rattle.bounds.specs.Book.{Book, bookAfter, exactPerMicro}
+use Rattle.bounds.specs.Measure.{Measure, measureOf}
+use Rattle.bounds.specs.Book.{Book, bookAfter}
 
 -- "A reading tells seconds x 1,000,000 + microseconds." (us)
 abbrev pub tells : shows.Reading → ℕ
@@ -23,66 +25,67 @@ tells r = r .seconds * microsPerSecond + r .micros .0
 -- Each bound is stated of whatever answers the events; what they should have come to is the book's, by the rules alone.
 
 -- "what a reading call answers on the clock after the list" (us)
-abbrev pub toldAfter : Answers → List Event → ℕ
-toldAfter answers events = tells (answers (clockBy answers events) (Call Reading) .reading)
+abbrev pub toldAfter : Answers → ℕ → List Event → ℕ
+toldAfter answers kind events = tells (answers (clockBy answers kind events) (Call Reading) .reading)
 
 -- the book of a list of events: it "counts these ticks as if made singly"
-abbrev pub bookOf : List Event → Book
-bookOf events = bookAfter (singly events)
+abbrev pub bookOf : ℕ → List Event → Book
+bookOf kind events = bookAfter kind (singly kind events)
 
--- "the reading is off the exact time by less than 1 us plus n/2^28 us", in 2^-32 us: |2^32 T - exact| < 2^32 + 16 n
-abbrev pub NearExact : ℕ → Book → Type 0
-NearExact t b = natAbs (pos (exactPerMicro * t) -ℤ b .exact) < exactPerMicro + 16 * b .n
+-- "the reading is off the exact time by less than 1 us plus n/2^28 us": in 2^-32 us |2^32 T - exact| < 2^32 + 16 n, and in 2^-34 us
+-- |2^34 T - exact| < 2^34 + 64 n
+abbrev pub NearExact : Measure → ℕ → Book → Type 0
+NearExact m t b = natAbs (pos (m .perMicro * t) -ℤ b .exact) < m .perMicro + m .perMicro / phaseUnitsPerMicro * b .n
 
 -- "After every such list, with n ticks since the last setting, the reading is off the exact time by less than [..]": the reading of the
 -- clock after the list is accepted, and what it tells is near.
-pub record FirstBound (answers : Answers) (events : List Event) : Type 0 where
-  pub accepted : answers (clockBy answers events) (Call Reading) .refusal ≡ 0
-  pub near : NearExact (toldAfter answers events) (bookOf events)
+pub record FirstBound (answers : Answers) (kind : ℕ) (events : List Event) : Type 0 where
+  pub accepted : answers (clockBy answers kind events) (Call Reading) .refusal ≡ 0
+  pub near : NearExact (measureOf kind) (toldAfter answers kind events) (bookOf kind events)
 
 -- "what has been taken off: asked less the offset left in the clock that this tick got" (offset units)
 abbrev pub takenOff : Clock → Book → ℤ
 takenOff got b = b .asked -ℤ got .offset .0
 
--- moved (1/256 offset unit) "differs from what has been taken off [..] by at most 1/256 of the size of the latter": |m - 256 t| ≤ |t|
-abbrev pub MovedAsTaken : ℤ → ℤ → Type 0
-MovedAsTaken m t = natAbs (m -ℤ pos 256 *ℤ t) ≤ natAbs t
+-- moved (1/256 offset unit) "differs from what has been taken off [..] by at most 1/256 of the size of the latter": |m - 256 t| ≤ |t|;
+-- and with 1/1,024 |m - 1,024 t| ≤ |t|
+abbrev pub MovedAsTaken : Measure → ℤ → ℤ → Type 0
+MovedAsTaken s m t = natAbs (m -ℤ pos (s .parts) *ℤ t) ≤ natAbs t
 
 -- What holds at a tick with these events before it, where it is accepted and rolls over, with what is moved then, this tick included.
 -- Before the first offset request, and after a setting, both are 0, so that it holds there too.
-abbrev pub AtRollover : Answers → List Event → Type 0
-AtRollover answers before =
-    rolls (clockAfter before) Tick ≡ true
-    → MovedAsTaken (bookOf (before ++ (Call Tick ∷ [])) .moved) (takenOff (clockBy answers before) (bookOf before))
+abbrev pub AtRollover : Answers → ℕ → List Event → Type 0
+AtRollover answers kind before =
+    rolls (clockAfter kind before) Tick ≡ true
+    → MovedAsTaken (measureOf kind) (bookOf kind (before ++ (Call Tick ∷ [])) .moved)
+    (takenOff (clockBy answers kind before) (bookOf kind before))
 
 -- "At every rollover, before the new share is taken, what the last offset request has moved the clock differs [..]": at each tick of the
 -- list, made in a call of its own or among those that a catch-up accepts; there the j before it are made singly, since nothing answers in
 -- the middle of a catch-up. What a wrong one leaves behind is seen by the lists that go on after it.
-pub record SecondBound (answers : Answers) (events : List Event) : Type 0 where
-  pub single : (before later : List Event) → events ≡ before ++ (Call Tick ∷ later) → AtRollover answers before
+pub record SecondBound (answers : Answers) (kind : ℕ) (events : List Event) : Type 0 where
+  pub single : (before later : List Event) → events ≡ before ++ (Call Tick ∷ later) → AtRollover answers kind before
   pub within : (before later : List Event) (ceiling : ℕ) (stop : Bool) → events ≡ before ++ (CatchUp ceiling stop ∷ later)
-      → (j : ℕ) → j < catchUpOf (clockAfter before) ceiling stop .count → AtRollover answers (before ++ asEvents (singleTicks j))
-
--- the least that a tick moves the clock forward (us)
-abbrev pub leastTick : ℕ
-leastTick = 3905
+      → (j : ℕ) → j < catchUpOf (clockAfter kind before) ceiling stop .count
+      → AtRollover answers kind (before ++ asEvents (singleTicks j))
 
 -- "Whichever two readings are taken, with n ticks and neither a setting nor an inserted second between them, the clock has gone
--- forward by at least 3,905 n us."
-abbrev pub ThirdBound : Answers → List Event → Type 0
-ThirdBound answers events =
+-- forward by at least 3,905 n us"; of the second device "at least 976 n us".
+abbrev pub ThirdBound : Answers → ℕ → List Event → Type 0
+ThirdBound answers kind events =
     (before between later : List Event) → events ≡ before ++ (Call Reading ∷ (between ++ (Call Reading ∷ later)))
-    → let c = clockAfter (before ++ (Call Reading ∷ [])) in
+    → let c = clockAfter kind (before ++ (Call Reading ∷ [])) in
     neitherSetNorInserted c (singlyFrom c between) ≡ true
-    → toldAfter answers before + leastTick * ticksAmong c (singlyFrom c between) ≤ toldAfter answers (before ++ (Call Reading ∷ between))
+    → toldAfter answers kind before + measureOf kind .least * ticksAmong c (singlyFrom c between)
+    ≤ toldAfter answers kind (before ++ (Call Reading ∷ between))
 
--- Demand 3 of what answers a list of events.
-pub record Demand3 (answers : Answers) (events : List Event) : Type 0 where
-  pub first : FirstBound answers events
-  pub second : SecondBound answers events
-  pub third : ThirdBound answers events
+-- Demand 3 of what answers a list of events on a fresh clock of a kind.
+pub record Demand3 (answers : Answers) (kind : ℕ) (events : List Event) : Type 0 where
+  pub first : FirstBound answers kind events
+  pub second : SecondBound answers kind events
+  pub third : ThirdBound answers kind events
 
--- "Take any list of ticks, settings, requests and readings, refused ones included, on a clock that starts fresh", and of catch-ups. What
--- answers is `event::step`, by its promise `r ≡ stepOf c e`.
+-- "Take any list of ticks, settings, requests and readings, refused ones included, on a clock that starts fresh", and of catch-ups; the
+-- clock is of either kind. What answers is `event::step`, by its promise `r ≡ stepOf c e`.
 abbrev pub Demand3OfEveryList : Type 0
-Demand3OfEveryList = (events : List Event) → Demand3 stepOf events
+Demand3OfEveryList = (kind : ℕ) → kindRange kind ≡ true → (events : List Event) → Demand3 stepOf kind events

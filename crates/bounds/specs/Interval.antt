@@ -35,13 +35,13 @@ unfoldable pub sinceFrom : Clock → Since → List Call → Since
 sinceFrom rules n [] = n
 sinceFrom rules n (e ∷ es) = sinceFrom (next rules e) (callSince rules e n) es
 
--- a list of events, the ticks of catch-ups made singly
-abbrev pub sinceOf : List Event → Since
-sinceOf events = sinceFrom freshClock noOffset (singly events)
+-- a list of events on a fresh clock of a kind, the ticks of catch-ups made singly
+abbrev pub sinceOf : ℕ → List Event → Since
+sinceOf kind events = sinceFrom (freshClock kind) noOffset (singly kind events)
 
 -- the earlier update that a clock holds: none without an offset, and else the rollovers since it, "at most 1,024"
 abbrev pub heldUpdate : Since → Update
 heldUpdate n = cond (n .offset) (record { updated = 1; interval = min (n .rollovers) longestInterval }) noUpdate
 
 abbrev pub IntervalOfEveryList : Type 0
-IntervalOfEveryList = (events : List Event) → updateOf (clockAfter events) ≡ heldUpdate (sinceOf events)
+IntervalOfEveryList = (kind : ℕ) (events : List Event) → updateOf (clockAfter kind events) ≡ heldUpdate (sinceOf kind events)

@@ -48,24 +48,25 @@ AnswersAs got c (CatchUp ceiling stop) =
     let a = stepOf got (CatchUp ceiling stop) in
     (a .refusal ≡ 0 → Ticked c ceiling stop a) × ((a .refusal ≡ 0 → ⊥) → Untouched c a)
 
--- the clock after some events, their ticks made singly
-abbrev pub singlyAfter : List Event → Clock
-singlyAfter events = after freshClock (singly events)
+-- the clock after some events on a fresh clock of a kind, their ticks made singly
+abbrev pub singlyAfter : ℕ → List Event → Clock
+singlyAfter kind events = after (freshClock kind) (singly kind events)
 
 -- An event of a list, with those before it and those after it.
-pub record InPlace (before later : List Event) (e : Event) : Type 0 where
+pub record InPlace (kind : ℕ) (before later : List Event) (e : Event) : Type 0 where
   -- its single calls stand in its place
-  pub place : singly (before ++ (e ∷ later))
-      ≡ singly before ++ (singleCalls (clockAfter before) e ++ singlyFrom (clockAfter (before ++ (e ∷ []))) later)
+  pub place : singly kind (before ++ (e ∷ later))
+      ≡ singly kind before ++ (singleCalls (clockAfter kind before) e ++ singlyFrom (clockAfter kind (before ++ (e ∷ []))) later)
   -- it answers as they do
-  pub answers : AnswersAs (clockAfter before) (singlyAfter before) e
+  pub answers : AnswersAs (clockAfter kind before) (singlyAfter kind before) e
   -- the book goes on with them from the clock that it gets
-  pub book : bookOf (before ++ (e ∷ [])) ≡ bookFrom (clockAfter before) (bookOf before) (singleCalls (clockAfter before) e)
+  pub book : bookOf kind (before ++ (e ∷ []))
+      ≡ bookFrom (clockAfter kind before) (bookOf kind before) (singleCalls (clockAfter kind before) e)
 
 -- a list of events, and its ticks made singly
-pub record MadeSingly (events : List Event) : Type 0 where
-  pub clock : clockAfter events ≡ singlyAfter events
-  pub each : (before later : List Event) (e : Event) → events ≡ before ++ (e ∷ later) → InPlace before later e
+pub record MadeSingly (kind : ℕ) (events : List Event) : Type 0 where
+  pub clock : clockAfter kind events ≡ singlyAfter kind events
+  pub each : (before later : List Event) (e : Event) → events ≡ before ++ (e ∷ later) → InPlace kind before later e
 
 abbrev pub EveryListMadeSingly : Type 0
-EveryListMadeSingly = (events : List Event) → MadeSingly events
+EveryListMadeSingly = (kind : ℕ) (events : List Event) → MadeSingly kind events

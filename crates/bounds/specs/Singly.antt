@@ -25,9 +25,9 @@ unfoldable pub singlyFrom : Clock → List Event → List Call
 singlyFrom c [] = []
 singlyFrom c (e ∷ es) = singleCalls c e ++ singlyFrom (stepOf c e .clock) es
 
--- the single calls of a list of events
-abbrev pub singly : List Event → List Call
-singly events = singlyFrom freshClock events
+-- the single calls of a list of events on a fresh clock of a kind
+abbrev pub singly : ℕ → List Event → List Call
+singly kind events = singlyFrom (freshClock kind) events
 
 -- single calls as events
 unfoldable pub asEvents : List Call → List Event

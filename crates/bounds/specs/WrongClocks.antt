@@ -1,12 +1,13 @@
 -- Clocks that document 01 shuts out by name: "a clock that refuses everything, and a reading that is always zero [..]; a tick that does
 -- nothing [..]; a rollover that pays the first share and later only pretends". And one whose catch-up counts its ticks and does not make
--- them. For each, a list of events at which demand 3 would fail.
-use Prim.Native.Nat.{_%_}
+-- them. For each, a list of events at which demand 3 would fail, on a clock of either kind.
+use Prim.Native.Nat.{ℕ, _+_, _%_}
 use mathlib.Core.Bool.{Bool, false, not, _&&_, cond}
 use mathlib.Core.List.{List, [], _∷_}
 use lib.Dec.{eqb}
 use lib.IntN.{pos, natAbs}
 use Rattle.clock.specs.Units.{offsetUnitsPerMicro}
+use Rattle.clock.specs.Device.{kind256, kind1024}
 use Rattle.clock.specs.State.{freshClock, timeOf, tuningOf, updateOf, errorsOf, whole}
 use Rattle.clock.specs.Reading.{noReading}
 use Rattle.clock.specs.Tick.{rollsOver}
@@ -18,6 +19,7 @@ use Rattle.event.specs.declared.event.Event.the-variants.{Call, CatchUp}
 use Rattle.event.specs.declared.event.Stepped.{Stepped}
 use Rattle.bounds.specs.Calls.{Answers}
 use Rattle.bounds.specs.Singly.{singleTicks, asEvents}
+use Rattle.bounds.specs.Measure.{measureOf}
 use Rattle.bounds.specs.Cases.{asks, set}
 use Rattle.bounds.specs.Demand.{toldAfter, bookOf, NearExact, ThirdBound}
 
@@ -63,8 +65,9 @@ abbrev pub unpaid : Clock → Clock
 unpaid c =
     whole
     (record {
+      kind = c .kind;
       time = timeOf c;
-      correction = record { offset = c .offset; adjustment = freshClock .adjustment };
+      correction = record { offset = c .offset; adjustment = freshClock (c .kind) .adjustment };
       tuning = tuningOf c;
       update = updateOf c;
       errors = errorsOf c;
@@ -82,15 +85,18 @@ pretends c (Call Reading) = stepOf c (Call Reading)
 pretends c (CatchUp ceiling stop) = stepOf c (CatchUp ceiling stop)
 
 -- the greatest offset, asked just before a rollover that pays its first share, and ticks past the rollover that only pretends
-abbrev pub pretence : List Event
-pretence = Call (set 0 999999) ∷ Call (asks (pos 127999)) ∷ asEvents (singleTicks 262)
+abbrev pub pretence : ℕ → List Event
+pretence kind = Call (set 0 999999) ∷ Call (asks (pos 127999)) ∷ asEvents (singleTicks (measureOf kind .parts + 24))
 
 -- None of them meets demand 3: a clock that refuses everything and a reading that is always zero are not near the exact time after a tick, "a tick
 -- that does nothing ([..] 3's forward bound)", "a rollover that pays the first share and later only pretends ([..] 3's first bound, whose
 -- exact time counts every share)". Nor does one whose catch-up only counts, by the forward bound again.
-pub record ShutOut : Type 0 where
-  pub refusing : NearExact (toldAfter refusesEverything (Call Tick ∷ [])) (bookOf (Call Tick ∷ [])) → ⊥
-  pub zeros : NearExact (toldAfter readsZero (Call Tick ∷ [])) (bookOf (Call Tick ∷ [])) → ⊥
-  pub idle : ThirdBound idles (Call Reading ∷ Call Tick ∷ Call Reading ∷ []) → ⊥
-  pub pretending : NearExact (toldAfter pretends pretence) (bookOf pretence) → ⊥
-  pub counting : ThirdBound countsOnly (Call Reading ∷ CatchUp 1 false ∷ Call Reading ∷ []) → ⊥
+pub record ShutOut (kind : ℕ) : Type 0 where
+  pub refusing : NearExact (measureOf kind) (toldAfter refusesEverything kind (Call Tick ∷ [])) (bookOf kind (Call Tick ∷ [])) → ⊥
+  pub zeros : NearExact (measureOf kind) (toldAfter readsZero kind (Call Tick ∷ [])) (bookOf kind (Call Tick ∷ [])) → ⊥
+  pub idle : ThirdBound idles kind (Call Reading ∷ Call Tick ∷ Call Reading ∷ []) → ⊥
+  pub pretending : NearExact (measureOf kind) (toldAfter pretends kind (pretence kind)) (bookOf kind (pretence kind)) → ⊥
+  pub counting : ThirdBound countsOnly kind (Call Reading ∷ CatchUp 1 false ∷ Call Reading ∷ []) → ⊥
+
+abbrev pub ShutOutOfEachKind : Type 0
+ShutOutOfEachKind = ShutOut kind256 × ShutOut kind1024

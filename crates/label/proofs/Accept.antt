@@ -10,6 +10,7 @@ use lib.Dec.{eqb, ltb}
 use lib.ListN.{length}
 use Rattle.integers.proofs.Ranges.{and-true}
 use Rattle.clock.specs.declared.state.Clock.{Clock}
+use Rattle.clock.specs.Device.{kind256, deviceOf}
 use Rattle.clock.specs.State.{inRange, freshClock, lastSecond, statusOop, statusBad}
 use Rattle.clock.proofs.Ok.{ok}
 use Rattle.clock.specs.Units.{secondsPerDay, lastSecondOfDay}
@@ -42,23 +43,24 @@ clock-says {c} w = says (omega (arith, ok c (w .sound) .seconds)) (sixty-last c)
 abbrev pub clockAt : ℕ → Bool → Clock
 clockAt s sixty =
     record {
+      kind = kind256;
       seconds = s;
-      micros = freshClock .micros;
-      phase = freshClock .phase;
-      offset = freshClock .offset;
-      frequency = freshClock .frequency;
-      adjustment = freshClock .adjustment;
-      constant = freshClock .constant;
-      updated = freshClock .updated;
-      interval = freshClock .interval;
-      maxerror = freshClock .maxerror;
-      esterror = freshClock .esterror;
+      micros = freshClock kind256 .micros;
+      phase = freshClock kind256 .phase;
+      offset = freshClock kind256 .offset;
+      frequency = freshClock kind256 .frequency;
+      adjustment = freshClock kind256 .adjustment;
+      constant = freshClock kind256 .constant;
+      updated = freshClock kind256 .updated;
+      interval = freshClock kind256 .interval;
+      maxerror = freshClock kind256 .maxerror;
+      esterror = freshClock kind256 .esterror;
       status = cond sixty statusOop statusBad;
     }
 
 module _ (s : ℕ) (h : s ≤ lastSecond) where
   clock-sound : (sixty : Bool) → inRange (clockAt s sixty) ≡ true
-  unfolding inRange
+  unfolding deviceOf inRange
   clock-sound true = rw (le-leb s lastSecond (omega arith))
   clock-sound false = rw (le-leb s lastSecond (omega arith))
 

@@ -9,6 +9,7 @@ use lib.ListN.{length}
 use borrow.Author.Tests.{le-leb, lt-leb, le-ltb, leb-true, leb-false, ltb-true, ltb-false}
 use Rattle.clock.specs.Tick.{tickOf}
 use Rattle.clock.specs.Reading.{readingOf, shown}
+use Rattle.clock.specs.Device.{kind256}
 use Rattle.clock.specs.State.{inRange, freshClock}
 use Rattle.clock.specs.declared.state.Clock.{Clock}
 use Rattle.event.specs.Event.{stepOf}
@@ -168,19 +169,19 @@ print-shown c z = sym (line-print c Reading refl z)
 
 module _ (s : List ℕ) where
   -- nothing is run of a history that is too long
-  long-clock : longestHistory < length s → (k : ℕ) → runAfter k s startOfRun .clock ≡ freshClock
+  long-clock : longestHistory < length s → (k : ℕ) → runAfter k s startOfRun .clock ≡ freshClock kind256
   unfolding runAfter
   long-clock h zero = refl
   long-clock h (suc k) =
       ap (λ (a : Advanced). runAfter k s (a .run) .clock) (step-long s startOfRun refl h)
       ∙ ap (λ (r : Run). r .clock) (run-ended s k (endOf startOfRun) refl)
 
-  by-length : (k : ℕ) (b : Bool) → ltb longestHistory (length s) ≡ b → runAfter k s startOfRun .clock ≡ clockAfter (callsOfFirst k s)
+  by-length : (k : ℕ) (b : Bool) → ltb longestHistory (length s) ≡ b → runAfter k s startOfRun .clock ≡ clockAfter kind256 (callsOfFirst k s)
   unfolding callsOfFirst afterBy ClockFrom
   by-length k true t = simp t (long-clock (ltb-true _ _ t) k)
-  by-length k false t = simp t (clock-from s (ltb-false _ _ t) k freshClock 0)
+  by-length k false t = simp t (clock-from s (ltb-false _ _ t) k (freshClock kind256) 0)
 
-  clocks : (k : ℕ) → runAfter k s startOfRun .clock ≡ clockAfter (callsOfFirst k s)
+  clocks : (k : ℕ) → runAfter k s startOfRun .clock ≡ clockAfter kind256 (callsOfFirst k s)
   clocks k = by-length k (ltb longestHistory (length s)) refl
 
   module _ (k : ℕ) (p : PrintAt s k) where
@@ -206,11 +207,11 @@ module _ (s : List ℕ) where
     among =
         simp (le-ltb longestHistory (length s) (p .fits))
         (ap (λ (j : ℕ). callsFrom j s 0) counted
-        ∙ calls-on s (p .fits) (suc more) k freshClock 0
+        ∙ calls-on s (p .fits) (suc more) k (freshClock kind256) 0
         ∙ ap (λ (es : List call.Event). callsFrom k s 0 ++ es) (some-found s (p .fits) (now .place) (Call Reading) (p .next) (omega (arith, inside)) (p .print) more))
 
-    accepted : stepOf (clockAfter (callsOfFirst k s)) (single Reading) .refusal ≡ 0
-    accepted = demand3 (callsOfFirst k s) .first .accepted
+    accepted : stepOf (clockAfter kind256 (callsOfFirst k s)) (single Reading) .refusal ≡ 0
+    accepted = demand3 kind256 refl (callsOfFirst k s) .first .accepted
 
     tells : Tells s k
     tells =
@@ -218,13 +219,13 @@ module _ (s : List ℕ) where
           later = callsFrom more s (p .next);
           among = among;
           refusal = accepted;
-          reading = reading-shown (clockAfter (callsOfFirst k s)) accepted;
+          reading = reading-shown (clockAfter kind256 (callsOfFirst k s)) accepted;
           line =
               ap (λ (a : Advanced). a .line) (step-found s now (p .going) (p .fits) (omega (arith, inside)) (p .print))
               ∙ ap (λ (c : Clock). lineOf c (Call Reading)) (clocks k)
-              ∙ print-shown (clockAfter (callsOfFirst k s)) accepted;
+              ∙ print-shown (clockAfter kind256 (callsOfFirst k s)) accepted;
         }
 
 pub demand3-of-history : Demand3OfEveryHistory
 unfolding replayOf
-demand3-of-history s = record { demand = demand3 (callsOf s); clock = clocks s (stepsToEnd s); clocks = clocks s; prints = tells s }
+demand3-of-history s = record { demand = demand3 kind256 refl (callsOf s); clock = clocks s (stepsToEnd s); clocks = clocks s; prints = tells s }

@@ -3,6 +3,7 @@ use mathlib.Core.Path.{_≡_, refl}
 use mathlib.Core.List.{List, [], _∷_}
 use Prim.Native.Nat.{ℕ}
 use Rattle.calendar.specs.Calendar.{dateOf}
+use Rattle.clock.specs.Device.{deviceOf}
 use Rattle.clock.specs.State.{inRange}
 use Rattle.clock.specs.Rollover.{rolledOver}
 use Rattle.clock.specs.Tick.{ticked, tickRefusal, tickOf}
@@ -25,7 +26,7 @@ prints s = replayOf s .output
 documented : prints (0x00 ∷ 0x80 ∷ 0x02 ∷ 0x03 ∷ [])
     ≡ 0x31 ∷ 0x39 ∷ 0x37 ∷ 0x30 ∷ 0x2D ∷ 0x30 ∷ 0x31 ∷ 0x2D ∷ 0x30 ∷ 0x31 ∷ 0x54 ∷ 0x30 ∷ 0x30 ∷ 0x3A ∷ 0x30 ∷ 0x30 ∷ 0x3A ∷ 0x30 ∷ 0x31 ∷ 90
     ∷ 0x20 ∷ 0x30 ∷ 0x30 ∷ 0x30 ∷ 0x30 ∷ 0x30 ∷ 0x30 ∷ 0x20 ∷ 0x34 ∷ 0x0A ∷ []
-unfolding dateOf inRange rolledOver ticked tickRefusal tickOf readingRefusal readingOf leadingMore valueOf judged numberAt labelOf ranOf ticksOf then ticksAt argumentsAt eventAt decimalFrom decimal printLine outcomeOf printedBy printed lineOf step runAfter linesOf replayOf
+unfolding deviceOf dateOf inRange rolledOver ticked tickRefusal tickOf readingRefusal readingOf leadingMore valueOf judged numberAt labelOf ranOf ticksOf then ticksAt argumentsAt eventAt decimalFrom decimal printLine outcomeOf printedBy printed lineOf step runAfter linesOf replayOf
 documented = refl
 
 nothing-printed : prints [] ≡ []
@@ -50,5 +51,5 @@ unknown-code = refl
 -- mode 65 brings an offset and is refused: `refused 4`; then `log 12 at 3`, and nothing after it is run
 high-mode : prints (0x02 ∷ 0x41 ∷ 0x02 ∷ 0x04 ∷ 0x03 ∷ [])
     ≡ 0x72 ∷ 0x65 ∷ 0x66 ∷ 0x75 ∷ 0x73 ∷ 0x65 ∷ 0x64 ∷ 0x20 ∷ 0x34 ∷ 0x0A ∷ 0x6C ∷ 0x6F ∷ 0x67 ∷ 0x20 ∷ 0x31 ∷ 0x32 ∷ 0x20 ∷ 0x61 ∷ 0x74 ∷ 0x20 ∷ 0x33 ∷ 0x0A ∷ []
-unfolding inRange unmapped fieldAt requestAt requestRefusal requestOf outcomeOf refusedLine lineOf leadingMore valueOf judged numberAt then argumentsAt eventAt decimalFrom decimal logLine step runAfter linesOf replayOf
+unfolding deviceOf inRange unmapped fieldAt requestAt requestRefusal requestOf outcomeOf refusedLine lineOf leadingMore valueOf judged numberAt then argumentsAt eventAt decimalFrom decimal logLine step runAfter linesOf replayOf
 high-mode = refl

@@ -5,6 +5,7 @@ use mathlib.Core.List.{List, [], _∷_, _++_}
 use Prim.Native.Nat.{ℕ, zero, suc, _≤_}
 use lib.Dec.{leb, ltb}
 use lib.ListN.{length}
+use Rattle.clock.specs.Device.{kind256}
 use Rattle.clock.specs.Reading.{shown}
 use Rattle.event.specs.Event.{stepOf}
 use Rattle.event.specs.declared.event.Call.the-variants.{Reading}
@@ -55,16 +56,16 @@ pub record Tells (s : List ℕ) (k : ℕ) : Type 0 where
   pub later : List call.Event
   pub among : callsOf s ≡ callsOfFirst k s ++ (single Reading ∷ later)
   -- the reading is accepted, and tells what the clock shows that the line prints
-  pub refusal : stepOf (clockAfter (callsOfFirst k s)) (single Reading) .refusal ≡ 0
-  pub reading : stepOf (clockAfter (callsOfFirst k s)) (single Reading) .reading ≡ shown (clockAfter (callsOfFirst k s))
-  pub line : step s (runAfter k s startOfRun) .line ≡ printLine (clockAfter (callsOfFirst k s))
+  pub refusal : stepOf (clockAfter kind256 (callsOfFirst k s)) (single Reading) .refusal ≡ 0
+  pub reading : stepOf (clockAfter kind256 (callsOfFirst k s)) (single Reading) .reading ≡ shown (clockAfter kind256 (callsOfFirst k s))
+  pub line : step s (runAfter k s startOfRun) .line ≡ printLine (clockAfter kind256 (callsOfFirst k s))
 
--- Demand 3 of a history that is replayed.
+-- Demand 3 of a history that is replayed, on a clock of kind 0.
 pub record Demand3OfHistory (s : List ℕ) : Type 0 where
-  pub demand : Demand3 stepOf (callsOf s)
+  pub demand : Demand3 stepOf kind256 (callsOf s)
   -- the clock that the replay leaves is the clock after the calls, and so is the clock at each step
-  pub clock : replayOf s .clock ≡ clockAfter (callsOf s)
-  pub clocks : (k : ℕ) → runAfter k s startOfRun .clock ≡ clockAfter (callsOfFirst k s)
+  pub clock : replayOf s .clock ≡ clockAfter kind256 (callsOf s)
+  pub clocks : (k : ℕ) → runAfter k s startOfRun .clock ≡ clockAfter kind256 (callsOfFirst k s)
   pub prints : (k : ℕ) → PrintAt s k → Tells s k
 
 abbrev pub Demand3OfEveryHistory : Type 0

@@ -4,6 +4,7 @@ use mathlib.Core.List.{List, [], _++_}
 use Prim.Native.Nat.{ℕ, zero, suc}
 use lib.Dec.{leb, ltb}
 use lib.ListN.{length}
+use Rattle.clock.specs.Device.{kind256}
 use Rattle.clock.specs.State.{freshClock}
 use Rattle.clock.specs.declared.state.Clock.{Clock}
 use Rattle.history.specs.Event.{Found, found, refused, eventAt}
@@ -15,9 +16,9 @@ use Rattle.playback.specs.declared.run.Run.{Run}
 abbrev pub longestHistory : ℕ
 longestHistory = 65536
 
--- "from a fresh clock"
+-- "from a fresh clock"; document 02: "replay and refused record readings use kind 0"
 abbrev pub startOfRun : Run
-startOfRun = record { clock = freshClock; place = 0; ended = false }
+startOfRun = record { clock = freshClock kind256; place = 0; ended = false }
 
 -- the run has ended where it stands, with the clock that it has
 abbrev pub endOf : Run → Run

@@ -11,6 +11,7 @@ use crate::lines::put_log;
 use crate::lines::put_print;
 use crate::lines::put_refused;
 use clock::Clock;
+use clock::KIND_256;
 use clock::fresh;
 use clock::run_ticks;
 use event::step;
@@ -52,7 +53,7 @@ pub struct Run {
 pub fn start() -> Run
     ensures { λ r. ⌜ r ≡ startOfRun ⌝ }
 {
-    let clock = fresh();
+    let clock = fresh(KIND_256).clock;
     Run {
         clock: clock,
         place: 0,

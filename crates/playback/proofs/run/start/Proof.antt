@@ -1,5 +1,6 @@
--- `playback::start` meets its contract: a run starts at the first byte, on a fresh clock.
+-- `playback::start` meets its contract: a run starts at the first byte, on a fresh clock of kind 0.
 use borrow.Author.Needs.{needs}
+use Rattle.clock.specs.Fresh.{freshOf}
 use Rattle.playback.proofs.run.start.Statement.{statement}
 use Rattle.playback.proofs.run.start.Tie as tie
 
@@ -7,7 +8,8 @@ fresh-requires : tie.Need-fresh-requires
 fresh-requires c κs = search needs
 
 returns : tie.Need-returns
-returns c = rw (c .fresh .ensures)
+unfolding freshOf
+returns c = rw (c .before .fresh .ensures)
 
 pub start-spec : {M : Type 1} → statement M
 start-spec = tie.close (tie.spec fresh-requires returns)
