@@ -144,22 +144,19 @@ record Leapt (c : Clock) (x : ℤ) (p n : ℕ) : Type 0 where
   pub second : leapSeconds (c .status) (c .seconds + 1) * 268435456000000 + down ≡ (c .seconds + 1) * 268435456000000 + up
 
 module _ (c : Clock) {x : ℤ} {p n : ℕ} (d : Diff x p n) where
-  abbrev second-units : ℕ
-  second-units = 1000000 * measureOf (c .kind) .perMicro
-
   leapt : LeapCase (c .status) (c .seconds + 1) → Leapt c x p n
   leapt (ins e) =
       record {
         up = 0;
         down = 268435456000000;
-        exact = simp e (record { eq = omega (arith, sub d (lit second-units) .eq, measured (c .kind) .perMicro) });
+        exact = simp e (record { eq = simp parts (omega (arith, d .eq, measured (c .kind) .perMicro)) });
         second = simp e (omega arith);
       }
   leapt (del e f) =
       record {
         up = 268435456000000;
         down = 0;
-        exact = simp (e, f) (record { eq = omega (arith, add d (lit second-units) .eq, measured (c .kind) .perMicro) });
+        exact = simp (e, f) (record { eq = simp parts (omega (arith, d .eq, measured (c .kind) .perMicro)) });
         second = simp (e, f) (omega arith);
       }
   leapt (none e f) = record { up = 0; down = 0; exact = simp (e, f) (record { eq = omega (arith, d .eq) }); second = simp (e, f) (omega arith) }

@@ -1,6 +1,6 @@
 -- The second bound: from one rollover to the next there are `rate` ticks, or one more or fewer, and all shares of one offset have its
 -- sign, so that what an offset has moved the clock is within 1/rate of what has been taken off it.
-use mathlib.Core.Path.{_≡_, refl, ap}
+use mathlib.Core.Path.{_≡_, refl, sym, ap}
 use mathlib.Core.Bool.{Bool, true, false}
 use mathlib.Core.List.{List, [], _∷_}
 use Prim.Native.Nat.{ℕ, _+_, _-_, _*_, _≤_}
@@ -201,7 +201,9 @@ module _ (c : Clock) (b : Book) (i : Inv c b) where
       omega (arith, abs-parts z, abs-parts t, dz .eq, dt .eq, u, v, p .P .whole, p .N .whole, one-part z, one-part t, one-part (b .asked))
 
   pub paid-bound : Paid c b → 1000000 ≤ microsGrown c → MovedAsTaken (measureOf (c .kind)) (b .moved +ℤ b .ownShare) (takenOff c b)
-  paid-bound p l = rw (measured (c .kind) .parts) (paid-by-rate p l)
+  paid-bound p l =
+      let h = rw (sym (measured (c .kind) .parts)) at (paid-by-rate p l) in
+      omega (arith, h)
 
 pub run-paid : (c : Clock) (b : Book) (es : List Call) → Inv c b → Paid c b → Paid (after c es) (bookFrom c b es)
 unfolding afterBy bookFrom

@@ -31,18 +31,18 @@ not-most {a} {b} e h = omega (arith, leb-false a b e)
 pub shut-out : ShutOutOfEachKind
 unfolding deviceOf measureOf inRange readingOf readingRefusal rolledOver ticked tickRefusal tickOf ranOf catchUpOf settingRefusal settingOf requestRefusal requested requestOf afterBy ticksAmong neitherSetNorInserted singleTicks singlyFrom asEvents bookFrom
 shut-out = (
-    record {
-      refusing = λ near. not-below refl near;
-      zeros = λ near. not-below refl near;
-      idle = λ b. not-most refl (b [] (Call Tick ∷ []) [] refl refl);
-      pretending = λ near. not-below refl near;
-      counting = λ b. not-most refl (b [] (CatchUp 1 false ∷ []) [] refl refl);
-    },
-    record {
-      refusing = λ near. not-below refl near;
-      zeros = λ near. not-below refl near;
-      idle = λ b. not-most refl (b [] (Call Tick ∷ []) [] refl refl);
-      pretending = λ near. not-below refl near;
-      counting = λ b. not-most refl (b [] (CatchUp 1 false ∷ []) [] refl refl);
-    },
+  record {
+    refusing = λ near. not-below refl near;
+    zeros = λ near. not-below refl near;
+    idle = λ b. not-most refl (b [] (Call Tick ∷ []) [] refl refl);
+    pretending = λ near. not-below refl near;
+    counting = λ b. not-most refl (b [] (CatchUp 1 false ∷ []) [] refl refl);
+  },
+  record {
+    refusing = λ near. not-below refl near;
+    zeros = λ near. not-below refl near;
+    idle = λ b. not-most refl (b [] (Call Tick ∷ []) [] refl refl);
+    pretending = λ near. not-below refl near;
+    counting = λ b. not-most refl (b [] (CatchUp 1 false ∷ []) [] refl refl);
+  },
 )

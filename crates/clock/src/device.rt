@@ -84,14 +84,8 @@ pub fn device_constants(kind: u8) -> Constants
     ensures { λ _. do ⌜ (← ⟦RECORDER_1024.most.0⟧ .entry) ≡ recorder1024 .most .0 ⌝ }
 {
     let device = device_of(kind);
-    if KIND_1024 < kind {
-        return Constants {
-            refusal: 1,
-            device: device,
-        };
-    }
     Constants {
-        refusal: 0,
+        refusal: (KIND_1024 < kind) as u8,
         device: device,
     }
 }

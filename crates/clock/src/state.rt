@@ -95,16 +95,16 @@ pub fn fresh(kind: u8) -> Outcome
     if KIND_1024 < kind {
         return Outcome {
             refusal: 1,
-            clock: unused(KIND_256),
+            clock: fresh_of(KIND_256),
         };
     }
     Outcome {
         refusal: 0,
-        clock: unused(kind),
+        clock: fresh_of(kind),
     }
 }
 
-fn unused(kind: u8) -> Clock
+fn fresh_of(kind: u8) -> Clock
     ensures { λ r. ⌜ r ≡ freshClock kind ⌝ }
 {
     let base = device_of(kind).base;

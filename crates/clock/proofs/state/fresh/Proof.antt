@@ -5,19 +5,19 @@ use Rattle.clock.specs.Fresh.{freshOf}
 use Rattle.clock.proofs.state.fresh.Statement.{statement}
 use Rattle.clock.proofs.state.fresh.Tie as tie
 
-unused-requires : tie.Need-unused-requires
-unused-requires c κs = search needs
+fresh-of-requires : tie.Need-fresh-of-requires
+fresh-of-requires c κs = search needs
 
 returns : tie.Need-returns
 unfolding freshOf
-returns c = simp (c .unused .ensures, lt-leb _ _ (c .before .if1 .taken))
+returns c = simp (c .fresh-of .ensures, lt-leb _ _ (c .before .if1 .taken))
 
-unused-requires-2 : tie.Need-unused-requires-2
-unused-requires-2 c κs = search needs
+fresh-of-requires-2 : tie.Need-fresh-of-requires-2
+fresh-of-requires-2 c κs = search needs
 
 returns-2 : tie.Need-returns-2
 unfolding freshOf
-returns-2 c = simp (c .unused2 .ensures, le-leb _ _ (c .before .if1 .left))
+returns-2 c = simp (c .fresh-of2 .ensures, le-leb _ _ (c .before .if1 .left))
 
 pub fresh-spec : {M : Type 1} → statement M
-fresh-spec = tie.close (tie.spec unused-requires returns unused-requires-2 returns-2)
+fresh-spec = tie.close (tie.spec fresh-of-requires returns fresh-of-requires-2 returns-2)
