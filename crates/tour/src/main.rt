@@ -1,6 +1,7 @@
 // A tour of the clock, with a line of output for each step. A clock is a value: a call takes one and hands back the next, and refusal 0.
 // A call that is refused hands back the clock that it got, and the number of its refusal.
 mod asleep;
+mod devices;
 mod show;
 
 use crate::show::show_clock;
@@ -8,6 +9,7 @@ use crate::show::show_refusal;
 use clock::AskedMicros;
 use clock::Clock;
 use clock::FREQUENCY_PER_PPM;
+use clock::KIND_256;
 use request::ADJ_FREQUENCY;
 use request::ADJ_OFFSET;
 use request::AskedFrequency;
@@ -19,12 +21,12 @@ const LEAP_DAY: u64 = 951782400;
 
 const FIFTY_PPM: i64 = 50 * (FREQUENCY_PER_PPM as i64);
 
-// About a second: the timer runs at 256 Hz, and from one second's end to the next there are 255, 256 or 257 ticks.
+// About a second: the timer of kind 0 runs at 256 Hz, and from one second's end to the next there are 255, 256 or 257 ticks.
 const TICKS: u64 = 256;
 
 fn main() {
     // A clock to which nothing has happened yet shows 1970. Its status is 4, BAD: it is not to be relied on.
-    let new = clock::fresh();
+    let new = clock::fresh(KIND_256).clock;
     show_clock(b"fresh", new);
 
     // A setting takes any seconds and microseconds, and refuses those that no clock can show.
@@ -59,11 +61,13 @@ fn main() {
     asleep::too_many_at_once(second.clock);
     save_and_restore(second.clock);
     restore_an_old_record();
+    devices::second_of_1024_ticks();
+    devices::no_third_kind();
 }
 
-// Saves a clock, then restores it from a damaged copy of its record and from the record itself. No record that is written is longer than 42 bytes.
+// Saves a clock, then restores it from a damaged copy of its record and from the record itself. No record that is written is longer than 43 bytes.
 fn save_and_restore(c: Clock) {
-    let mut bytes = [0u8; 42];
+    let mut bytes = [0u8; 43];
     let saved = record::write(c, &mut bytes);
     let n = saved.length;
     show_refusal(b"saved", saved.refusal);
@@ -81,8 +85,8 @@ fn damage_and_restore(bytes: &mut [u8]) {
     restore(b"the damaged copy", bytes);
 }
 
-// A record of version 1, which has the second of the last offset where version 2 has the rollovers since it. It is read; the clock that it
-// gives has no earlier offset, so that the next one pulls no frequency.
+// A record of version 1, which has the second of the last offset where later ones have the rollovers since it, and no kind. It is read; the
+// clock that it gives is of kind 0 and has no earlier offset, so that the next one pulls no frequency.
 fn restore_an_old_record() {
     let bytes =
         b"\x01\x82\x98\xec\xc5\x03\x32\x00\x00\x00\x80\x80\x80\x40\x00\x01\x80\x98\xec\xc5\x03\x80\xc8\xd0\x07\x80\xc8\xd0\x07\x00";

@@ -42,6 +42,7 @@ pub(crate) fn show_refusal(what: &[u8], n: u8) {
     say(b": refused with ");
     say_number(n as u64);
     match n {
+        1 => say(b", a field of the clock is out of its range\n"),
         3 => say(b", the clock is at the end of its last second\n"),
         10 => say(b", the bytes end inside the record\n"),
         11 => say(b", a number is not in its shortest form\n"),
