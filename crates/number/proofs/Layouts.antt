@@ -9,7 +9,7 @@ use mathlib.Core.Logic.{_⊎_, inl, inr, ⊎-elim}
 use Prim.Native.Nat.{ℕ, suc, _+_, _^_, _<_, _≤_}
 use native.Mathlib.Nat.{pow-le-pow-right}
 use native.Mathlib.Omega.{arith}
-use lib.Dec.{ltb, eqb}
+use lib.Dec.{ltb}
 use lib.ListN.{length, getD}
 use borrow.Author.Tests.{ltb-true, ltb-false, lt-ltb, le-ltb, eqb-true}
 use Rattle.integers.proofs.Ranges.{and-true, true-and}
@@ -17,7 +17,7 @@ use Rattle.number.specs.Form.{limit, bytesOfAll}
 use Rattle.number.specs.Reading.{Found, number, refused, numberAt}
 use Rattle.number.specs.Sequence.{then}
 use Rattle.number.specs.Inner.{refusedAs}
-use Rattle.number.specs.Layout.{judgedBy, fieldAt, placeAt, Layout, place, whole, Outcome, got, failed, readFrom}
+use Rattle.number.specs.Layout.{judgedBy, fieldAt, suits, written, placeAt, Layout, place, whole, Outcome, got, failed, readFrom}
 use Rattle.number.specs.Stopping.{Stops, LayoutExactlyWhen, Outside, FieldExactlyWhen}
 use Rattle.number.proofs.Lists.{either}
 use Rattle.number.proofs.WrittenRead.{Holds, written-read}
@@ -27,10 +27,6 @@ use Rattle.number.proofs.Extent.{refused-only}
 use Rattle.number.proofs.Sizes.{sizes-below, sizes-none}
 
 -- ---- the numbers of a record
-
--- a number that suits a place: one in its range, and 0 where the place is not there
-abbrev suits : Bool → (ℕ → Bool) → ℕ → Bool
-suits here range n = cond here (range n) (eqb n 0)
 
 -- a number for each place
 unfoldable pub Choice : {A : Type 0} → Layout A → Type 0
@@ -48,12 +44,7 @@ unfolding Choice
 stands (place here range rest) k = stands (rest (k .n)) (k .more)
 stands (whole saved) k = saved
 
--- of numbers for each place, those that are written: the places are there
-unfoldable pub written : {A : Type 0} → Layout A → List ℕ → List ℕ
-written (place here range rest) [] = []
-written (place here range rest) (n ∷ ns) = cond here (n ∷ written (rest n) ns) (written (rest n) ns)
-written (whole saved) ns = []
-
+-- those that are written
 abbrev pub chosen : {A : Type 0} (l : Layout A) → Choice l → List ℕ
 chosen l k = written l (picked l k)
 

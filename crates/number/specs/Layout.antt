@@ -2,9 +2,9 @@
 -- crate that saves something gives its layout. Document 01: "A record reader takes fields in order, and a field that fails to read ends
 -- the reading with its number; .. 13 comes last."
 use mathlib.Core.Bool.{Bool, true, cond}
-use mathlib.Core.List.{List}
+use mathlib.Core.List.{List, [], _∷_}
 use Prim.Native.Nat.{ℕ}
-use lib.Dec.{ltb}
+use lib.Dec.{ltb, eqb}
 use lib.IntN.{ℤ}
 use lib.ListN.{length}
 use Rattle.number.specs.Mapping.{unmapped}
@@ -33,6 +33,16 @@ pub data Layout (A : Type 0) : Type 0 where
 -- a field of every record
 abbrev pub field : {A : Type 0} → (ℕ → Bool) → (ℕ → Layout A) → Layout A
 field range rest = place true range rest
+
+-- a number that suits a place: one in its range, and 0 where the place is not there
+abbrev pub suits : Bool → (ℕ → Bool) → ℕ → Bool
+suits here range n = cond here (range n) (eqb n 0)
+
+-- of numbers for each place, those that are written: the places are there
+unfoldable pub written : {A : Type 0} → Layout A → List ℕ → List ℕ
+written (place here range rest) [] = []
+written (place here range rest) (n ∷ ns) = cond here (n ∷ written (rest n) ns) (written (rest n) ns)
+written (whole saved) ns = []
 
 -- what stands at place `at` of s, for a place of the layout
 abbrev pub placeAt : Bool → (ℕ → Bool) → List ℕ → ℕ → Found

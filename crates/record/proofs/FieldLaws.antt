@@ -5,16 +5,21 @@ use mathlib.Core.List.{List}
 use mathlib.Core.Logic.{⊎-elim}
 use Prim.Native.Nat.{ℕ}
 use native.Mathlib.Omega.{arith}
-use lib.IntN.{negsuc}
+use mir.Syntax.{w32}
+use mir.Val.{toZ, ofZ}
+use mir.Facts.{toZ-ofZ}
 use Rattle.number.specs.declared.decode.Decoded.{Decoded}
 use Rattle.number.specs.declared.decode.Decoded.the-variants as D
 use Rattle.number.specs.Reading.{Found, number, refused, numberAt, told}
 use Rattle.number.proofs.Lists.{either}
+use Rattle.clock.specs.Device.{deviceOf}
 use Rattle.clock.specs.State.{phaseRange, offsetRange, frequencyRange, adjustmentRange}
-use Rattle.number.specs.Layout.{judgedBy, fieldAt, mappedRange}
+use Rattle.clock.specs.declared.device.Device.{Device}
+use Rattle.clock.proofs.DeviceLaws.{fits-least, fits-most}
+use Rattle.number.specs.Layout.{judgedBy, fieldAt, placeAt, suits, mappedRange}
 use Rattle.record.specs.Layout.{lastRange}
-use Rattle.record.specs.Inner.{toldField, upTo, fromTo, mappedPhase, mappedOffset, mappedFrequency, mappedAdjustment, lastMost}
-use Rattle.record.proofs.Ranges.{phase-test, offset-test, frequency-test, adjustment-test, last-test}
+use Rattle.record.specs.Inner.{toldField, upTo, betweenZ, mappedPhase, mappedOffset, mappedFrequency, lastMost}
+use Rattle.record.proofs.Ranges.{phase-test, offset-test, frequency-test, last-test}
 use Rattle.record.specs.declared.field.Field.{Field}
 use Rattle.record.specs.declared.field.Field.the-variants as F
 
@@ -55,8 +60,10 @@ offset-field s at = field-same _ _ s at offset-test
 pub frequency-field : (s : List ℕ) (at : ℕ) → fieldAt (upTo mappedFrequency) s at ≡ fieldAt (mappedRange frequencyRange) s at
 frequency-field s at = field-same _ _ s at frequency-test
 
-pub adjustment-field : (s : List ℕ) (at : ℕ) → fieldAt (fromTo (negsuc 168819711) mappedAdjustment) s at ≡ fieldAt (mappedRange adjustmentRange) s at
-adjustment-field s at = field-same _ _ s at adjustment-test
+-- the adjustment, tested by the ends of the device that is told of the record's kind
+pub adjustment-field : (s : List ℕ) (at kind : ℕ) {d : Device} → d ≡ deviceOf kind
+    → fieldAt (mappedRange (betweenZ (toZ w32 (ofZ w32 (d .least .0))) (toZ w32 (ofZ w32 (d .most .0))))) s at ≡ fieldAt (mappedRange (adjustmentRange (deviceOf kind))) s at
+adjustment-field s at kind e = rw e (rw (toZ-ofZ (fits-least kind), toZ-ofZ (fits-most kind)))
 
 -- what follows the flag of the earlier update, tested by the largest number that version and flag allow
 pub last-field : (s : List ℕ) (at version flag : ℕ) {m : ℕ} → m ≡ lastMost version flag → fieldAt (upTo m) s at ≡ fieldAt (lastRange version flag) s at
@@ -81,3 +88,12 @@ judged-in range (refused r) e = let z : _≡_ {A = ℕ} 0 1 = cc in absurd (omeg
 pub read-in : (range : ℕ → Bool) (s : List ℕ) (at : ℕ) {d : Field} {v k : ℕ} → toldField d ≡ fieldAt range s at → d ≡ F.Value v k → range v ≡ true
 unfolding fieldAt
 read-in range s at e f = judged-in range (numberAt s at) (ap toldField (sym f) ∙ e)
+
+-- .. and at a place that may not be there it suits the place
+pub read-suits : (here : Bool) (range : ℕ → Bool) (s : List ℕ) (at : ℕ) {d : Field} {v k : ℕ} → toldField d ≡ placeAt here range s at → d ≡ F.Value v k
+    → suits here range v ≡ true
+read-suits true range s at e f = read-in range s at e f
+read-suits false range s at {v = v} {k = k} e f =
+    let g : number v k ≡ number 0 at = ap toldField (sym f) ∙ e in
+    let h : v ≡ 0 = cc in
+    rw h

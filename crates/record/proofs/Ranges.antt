@@ -1,22 +1,25 @@
 -- The ranges as the code tests them are those of the clock's table; and numbers in a range fit the types that hold them.
 use mathlib.Core.Path.{_≡_, refl, sym, _∙_, ap}
-use mathlib.Core.Bool.{Bool, true, false, cond, _&&_, and-false}
+use mathlib.Core.Bool.{Bool, true, false, cond, _&&_}
 use mathlib.Core.Bool.{and-true as and-one}
 use mathlib.Core.Logic.{⊎-elim}
-use Prim.Native.Nat.{ℕ, suc, _*_, _/_, _%_, _≤_, _<_}
+use Prim.Native.Nat.{ℕ, suc, _*_, _/_, _%_, _^_, _≤_, _<_}
 use native.Mathlib.Omega.{arith}
-use lib.Dec.{leb, eqb, leb·suc-suc, lit<}
+use lib.Dec.{leb, eqb, leb·suc-suc}
 use lib.IntN.{ℤ, pos, negsuc}
 use mir.Syntax.{w32, w64}
 use mir.Val.{SFits}
 use borrow.Author.Tests.{leb-true, leb-false, le-leb, lt-leb, eqb-true, eqb-false}
-use Rattle.integers.proofs.Ranges.{zero-only}
+use Rattle.integers.proofs.Parts.{posPart, negPart}
+use Rattle.integers.proofs.Ranges.{zero-only, bounds-parts}
 use Rattle.number.specs.Mapping.{unmapped}
 use Rattle.number.proofs.Lists.{either}
-use Rattle.number.specs.Layout.{mappedRange}
-use Rattle.clock.specs.State.{lastSecond, longestInterval, zeroUnlessFlag, phaseRange, offsetRange, frequencyRange, adjustmentRange}
-use Rattle.record.specs.Layout.{lastRange}
-use Rattle.record.specs.Inner.{upTo, fromTo, betweenZ, mappedPhase, mappedOffset, mappedFrequency, mappedAdjustment, lastMost}
+use Rattle.number.specs.Layout.{mappedRange, suits}
+use Rattle.number.proofs.Mapping.{even, odd}
+use Rattle.clock.specs.Device.{kindRange}
+use Rattle.clock.specs.State.{lastSecond, longestInterval, zeroUnlessFlag, phaseRange, offsetRange, frequencyRange}
+use Rattle.record.specs.Layout.{holdsKind, lastRange}
+use Rattle.record.specs.Inner.{upTo, betweenZ, mappedPhase, mappedOffset, mappedFrequency, lastMost}
 
 -- above -2^28 and below 2^28
 phase-bounds : (z : ℤ) → betweenZ (negsuc 268435454) (pos 268435455) z ≡ phaseRange z
@@ -46,21 +49,6 @@ balanced k n =
     simp t (same-test n (2 * suc k) (n / 2) k (λ h. omega arith) (λ h. omega arith) ∙ sym (and-one (leb (n / 2) k))))
     (either (eqb (n % 2) 0))
 
--- one that is less wide below 0: its least number is tested too
-lopsided : (k m n : ℕ) → k < m → fromTo (negsuc k) (2 * m) n ≡ betweenZ (negsuc k) (pos m) (unmapped n)
-unfolding unmapped
-lopsided k m n l =
-    ⊎-elim
-    (λ (t : eqb (n % 2) 0 ≡ true).
-    let even = eqb-true (n % 2) 0 t in
-    simp t (and-one (leb n (2 * m)) ∙ same-test n (2 * m) (n / 2) m (λ h. omega arith) (λ h. omega arith)))
-    (λ (t : eqb (n % 2) 0 ≡ false). simp t (by-least (leb (n / 2) k) refl))
-    (either (eqb (n % 2) 0))
-  where
-    by-least : (b : Bool) → leb (n / 2) k ≡ b → leb n (2 * m) && b ≡ b && true
-    by-least true e = ap (λ (x : Bool). x && true) (le-leb n (2 * m) (omega (arith, leb-true (n / 2) k e)))
-    by-least false e = and-false (leb n (2 * m))
-
 pub phase-test : (n : ℕ) → upTo mappedPhase n ≡ mappedRange phaseRange n
 phase-test n = balanced 268435454 n ∙ phase-bounds (unmapped n)
 
@@ -69,9 +57,6 @@ offset-test = balanced 2097135615
 
 pub frequency-test : (n : ℕ) → upTo mappedFrequency n ≡ mappedRange frequencyRange n
 frequency-test = balanced 1677721599
-
-pub adjustment-test : (n : ℕ) → fromTo (negsuc 168819711) mappedAdjustment n ≡ mappedRange adjustmentRange n
-adjustment-test n = lopsided 168819711 303037440 n (lit< tt)
 
 -- what follows the flag of the earlier update: up to m with the flag, and else 0
 by-flag : (m flag n : ℕ) → upTo (cond (eqb flag 1) m 0) n ≡ leb n m && zeroUnlessFlag flag n
@@ -87,6 +72,28 @@ last-test version flag n =
 
 pub widen : {z : ℤ} → SFits w32 z → SFits w64 z
 widen f = record { sfits = omega (arith, f .sfits) }
+
+sfits-apart : (z : ℤ) → SFits w32 z → (posPart z < 2 ^ 31) × (negPart z ≤ 2 ^ 31)
+sfits-apart (pos n) f = omega (arith, f .sfits)
+sfits-apart (negsuc n) f = omega (arith, f .sfits)
+
+-- the number of a signed value between two of 32 bits
+pub between-small : {l h : ℤ} (n : ℕ) → SFits w32 l → SFits w32 h → betweenZ l h (unmapped n) ≡ true → n < 2 ^ 32
+between-small {l} {h} n f g e =
+    let p = sfits-apart l f in
+    let q = sfits-apart h g in
+    let b = bounds-parts l h (unmapped n) e in
+    ⊎-elim (λ t. let r = rw (even n (eqb-true _ 0 t)) at b in omega (arith, r)) (λ t. let r = rw (odd n (eqb-false _ 0 t)) at b in omega (arith, r))
+    (either (eqb (n % 2) 0))
+
+-- a number that suits a place is in its range, where 0 is
+within : (here : Bool) (range : ℕ → Bool) (n : ℕ) → range 0 ≡ true → suits here range n ≡ true → range n ≡ true
+within true range n z e = e
+within false range n z e = ap range (eqb-true n 0 e) ∙ z
+
+-- a kind that a record of the version can hold is one
+pub kind-within : (version kind : ℕ) → suits (holdsKind version) kindRange kind ≡ true → kindRange kind ≡ true
+kind-within version kind = within (holdsKind version) kindRange kind refl
 
 -- a field of one byte
 pub byte : {n : ℕ} (most : ℕ) → most < 256 → upTo most n ≡ true → n < 256

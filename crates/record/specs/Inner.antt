@@ -1,14 +1,12 @@
 -- What the reader's private functions answer. No public promise names these.
 use Prim.Native.Nat.{ℕ, _*_, _-_}
-use lib.IntN.{ℤ, natAbs}
+use lib.IntN.{ℤ}
 use mathlib.Core.Bool.{Bool, cond, _&&_}
 use lib.Dec.{leb, eqb}
 use lib.Signed.{leZ}
 use Rattle.number.specs.Layout.{Layout, whole}
-use Rattle.number.specs.Mapping.{unmapped}
 use Rattle.number.specs.Reading.{Found, number, refused}
 use Rattle.clock.specs.Units.{offsetUnitsPerMicro, phaseUnitsPerMicro}
-use Rattle.clock.specs.Device.{recorder256}
 use Rattle.clock.specs.State.{lastSecond, longestInterval, greatestOffset, greatestFrequency}
 use Rattle.clock.specs.declared.state.Clock.{Clock}
 use Rattle.record.specs.Layout.{timeFields, loopFields, rateFields, updateFields, errorFields, clockOf}
@@ -33,11 +31,7 @@ upTo most n = leb n most
 abbrev pub betweenZ : ℤ → ℤ → ℤ → Bool
 betweenZ least most z = leZ least z && leZ z most
 
--- numbers 0 to most, of signed numbers from least on
-abbrev pub fromTo : ℤ → ℕ → ℕ → Bool
-fromTo least most n = leb n most && leZ least (unmapped n)
-
--- the greatest numbers that the signed fields are mapped to
+-- the greatest numbers that signed fields are mapped to whose ranges are as wide below 0 as above
 abbrev pub mappedPhase : ℕ
 mappedPhase = 2 * (phaseUnitsPerMicro - 1)
 
@@ -47,9 +41,6 @@ mappedOffset = 2 * (greatestOffset * offsetUnitsPerMicro)
 abbrev pub mappedFrequency : ℕ
 mappedFrequency = 2 * greatestFrequency
 
-abbrev pub mappedAdjustment : ℕ
-mappedAdjustment = 2 * natAbs (recorder256 .most .0)
-
 -- the largest number behind the flag of an earlier update
 abbrev pub lastMost : ℕ → ℕ → ℕ
 lastMost version flag = cond (eqb flag 1) (cond (eqb version 1) lastSecond longestInterval) 0
@@ -57,13 +48,13 @@ lastMost version flag = cond (eqb flag 1) (cond (eqb version 1) lastSecond longe
 -- ---- a group of fields and those behind it, after the groups before it
 
 unfoldable pub fromErrors : Head → Time → Loop → Rate → Update → Layout Clock
-fromErrors h t l a u = errorFields (λ e. whole (clockOf t l a u e))
+fromErrors h t l a u = errorFields (λ e. whole (clockOf h t l a u e))
 
 unfoldable pub fromUpdate : Head → Time → Loop → Rate → Layout Clock
 fromUpdate h t l a = updateFields (h .version) (λ u. fromErrors h t l a u)
 
 unfoldable pub fromRate : Head → Time → Loop → Layout Clock
-fromRate h t l = rateFields (λ a. fromUpdate h t l a)
+fromRate h t l = rateFields (h .kind) (λ a. fromUpdate h t l a)
 
 unfoldable pub fromLoop : Head → Time → Layout Clock
 fromLoop h t = loopFields (λ l. fromRate h t l)

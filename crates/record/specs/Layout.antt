@@ -1,17 +1,20 @@
 -- What a saved record holds: the fields in their order, the numbers and the bytes of a clock. Document 01, "Saved record": "Thirteen
 -- numbers: version 1, then the table's fields in its order (earlier update is two)." "Phase, offset left, frequency and adjustment are
 -- first mapped". Document 02: "Record version 2 carries the count in the place of the second, 0..1,024 and 0 if the flag is 0; a version 1
--- record is still read, as having no earlier update. Writers use the newest version". All versions are one layout.
+-- record is still read, as having no earlier update. Writers use the newest version"; "Version 3 records hold the kind right after the
+-- version, older ones read as 0". All versions are one layout.
 use mathlib.Core.Bool.{Bool, cond, _&&_}
 use mathlib.Core.List.{List, [], _∷_}
 use Prim.Native.Nat.{ℕ}
 use lib.Dec.{leb, eqb}
 use Rattle.number.specs.Form.{bytesOfAll}
-use Rattle.number.specs.Layout.{Layout, field, whole, mappedRange}
+use Rattle.number.specs.Layout.{Layout, place, field, whole, mappedRange, written}
 use Rattle.number.specs.Mapping.{mapped, unmapped}
 use Rattle.clock.specs.Units.{micros, offsetUnits, phaseUnits, frequencyUnits}
+use Rattle.clock.specs.Device.{kindRange, deviceOf}
 use Rattle.clock.specs.State.{secondRange, microsRange, phaseRange, offsetRange, frequencyRange, adjustmentRange, constantRange, flagRange, intervalRange, zeroUnlessFlag, errorRange, statusRange}
 use Rattle.clock.specs.declared.state.Clock.{Clock}
+use Rattle.record.specs.declared.groups.Head.{Head}
 use Rattle.record.specs.declared.groups.Time.{Time}
 use Rattle.record.specs.declared.groups.Loop.{Loop}
 use Rattle.record.specs.declared.groups.Rate.{Rate}
@@ -20,44 +23,24 @@ use Rattle.record.specs.declared.groups.Errors.{Errors}
 
 -- the version that is written
 abbrev pub newest : ℕ
-newest = 2
+newest = 3
 
 -- the versions that are read: any other is unknown
 abbrev pub knownVersion : ℕ → Bool
 knownVersion n = leb 1 n && leb n newest
 
--- ---- the numbers of a record
-
--- of a version: those of the clock, but at the two places of the earlier update a flag, and what follows it
-unfoldable pub numbersIn : ℕ → Clock → ℕ → ℕ → List ℕ
-numbersIn version c flag last =
-    version
-    ∷ c .seconds
-    ∷ c .micros .0
-    ∷ mapped (c .phase .0)
-    ∷ mapped (c .offset .0)
-    ∷ mapped (c .frequency .0)
-    ∷ mapped (c .adjustment .0)
-    ∷ c .constant
-    ∷ flag
-    ∷ last
-    ∷ c .maxerror .0
-    ∷ c .esterror .0
-    ∷ c .status
-    ∷ []
-
--- its bytes: those of the numbers, one after the other
-unfoldable pub recordIn : ℕ → Clock → ℕ → ℕ → List ℕ
-recordIn version c flag last = bytesOfAll (numbersIn version c flag last)
-
--- the record of a clock, as it is written
-abbrev pub numbersOf : Clock → List ℕ
-numbersOf c = numbersIn newest c (c .updated) (c .interval)
-
-abbrev pub recordOf : Clock → List ℕ
-recordOf c = recordIn newest c (c .updated) (c .interval)
+-- "Version 3 records hold the kind right after the version"
+abbrev pub holdsKind : ℕ → Bool
+holdsKind version = leb 3 version
 
 -- ---- the fields, by groups of two or three: what has been read of each, and what follows it
+
+-- the version, and the kind of the device, which reads as 0 where it is not held
+abbrev pub headFields : (Head → Layout Clock) → Layout Clock
+headFields rest =
+    field knownVersion (λ version.
+    place (holdsKind version) kindRange (λ kind.
+    rest (record { version = version; kind = kind })))
 
 -- seconds, microseconds, phase
 abbrev pub timeFields : (Time → Layout Clock) → Layout Clock
@@ -74,10 +57,10 @@ loopFields rest =
     field (mappedRange frequencyRange) (λ frequency.
     rest (record { offset = offset; frequency = frequency })))
 
--- adjustment per tick, time constant
-abbrev pub rateFields : (Rate → Layout Clock) → Layout Clock
-rateFields rest =
-    field (mappedRange adjustmentRange) (λ adjustment.
+-- adjustment per tick, in the range of the record's own kind, and time constant
+abbrev pub rateFields : ℕ → (Rate → Layout Clock) → Layout Clock
+rateFields kind rest =
+    field (mappedRange (adjustmentRange (deviceOf kind))) (λ adjustment.
     field constantRange (λ constant.
     rest (record { adjustment = adjustment; constant = constant })))
 
@@ -85,7 +68,7 @@ rateFields rest =
 abbrev pub reftimeRange : ℕ → ℕ → Bool
 reftimeRange flag n = secondRange n && zeroUnlessFlag flag n
 
--- version 2: "the count in the place of the second, 0..1,024 and 0 if the flag is 0"
+-- from version 2 on: "the count in the place of the second, 0..1,024 and 0 if the flag is 0"
 abbrev pub countRange : ℕ → ℕ → Bool
 countRange flag n = intervalRange n && zeroUnlessFlag flag n
 
@@ -113,9 +96,10 @@ errorFields rest =
     rest (record { maxerror = maxerror; esterror = esterror; status = status }))))
 
 -- the clock that the numbers stand for
-abbrev pub clockOf : Time → Loop → Rate → Update → Errors → Clock
-clockOf t l a u e =
+abbrev pub clockOf : Head → Time → Loop → Rate → Update → Errors → Clock
+clockOf h t l a u e =
     record {
+      kind = h .kind;
       seconds = t .seconds;
       micros = micros (t .micros);
       phase = phaseUnits (unmapped (t .phase));
@@ -130,13 +114,49 @@ clockOf t l a u e =
       status = e .status;
     }
 
--- the version, "then the table's fields in its order"
+-- version and kind, "then the table's fields in its order"
 unfoldable pub recordLayout : Layout Clock
 recordLayout =
-    field knownVersion (λ version.
+    headFields (λ h.
     timeFields (λ t.
     loopFields (λ l.
-    rateFields (λ a.
-    updateFields version (λ u.
+    rateFields (h .kind) (λ a.
+    updateFields (h .version) (λ u.
     errorFields (λ e.
-    whole (clockOf t l a u e)))))))
+    whole (clockOf h t l a u e)))))))
+
+-- ---- the numbers of a record
+
+-- a number for each place: those of the clock, but at the two places of the earlier update a flag, and what follows it
+unfoldable pub placesIn : ℕ → Clock → ℕ → ℕ → List ℕ
+placesIn version c flag last =
+    version
+    ∷ c .kind
+    ∷ c .seconds
+    ∷ c .micros .0
+    ∷ mapped (c .phase .0)
+    ∷ mapped (c .offset .0)
+    ∷ mapped (c .frequency .0)
+    ∷ mapped (c .adjustment .0)
+    ∷ c .constant
+    ∷ flag
+    ∷ last
+    ∷ c .maxerror .0
+    ∷ c .esterror .0
+    ∷ c .status
+    ∷ []
+
+-- of a version: those at the places that it has
+unfoldable pub numbersIn : ℕ → Clock → ℕ → ℕ → List ℕ
+numbersIn version c flag last = written recordLayout (placesIn version c flag last)
+
+-- its bytes: those of the numbers, one after the other
+unfoldable pub recordIn : ℕ → Clock → ℕ → ℕ → List ℕ
+recordIn version c flag last = bytesOfAll (numbersIn version c flag last)
+
+-- the record of a clock, as it is written
+abbrev pub numbersOf : Clock → List ℕ
+numbersOf c = numbersIn newest c (c .updated) (c .interval)
+
+abbrev pub recordOf : Clock → List ℕ
+recordOf c = recordIn newest c (c .updated) (c .interval)

@@ -6,19 +6,23 @@ use mathlib.Core.List.{List, [], _∷_, _++_}
 use mathlib.Core.Logic.{_⊎_}
 use Prim.Native.Nat.{ℕ, _<_, _≤_}
 use lib.ListN.{length, getD, take, drop}
+use Rattle.number.specs.Layout.{suits}
 use Rattle.number.specs.Stopping.{Stops}
+use Rattle.clock.specs.Device.{kindRange, kind256, kind1024}
 use Rattle.clock.specs.State.{inRange, freshClock, flagRange}
 use Rattle.clock.specs.declared.state.Clock.{Clock}
-use Rattle.record.specs.Layout.{newest, knownVersion, reftimeRange, lastRange, keptUpdate, recordIn, recordOf, recordLayout}
+use Rattle.record.specs.Layout.{newest, knownVersion, holdsKind, reftimeRange, lastRange, keptUpdate, recordIn, recordOf, recordLayout}
 use Rattle.record.specs.Reading.{readingOf, accepted, refusedWith}
 use Rattle.record.specs.Saving.{savingOf, bufferAfter}
 use Rattle.record.specs.declared.restore.Restored.{Restored}
 
 -- A record of this version, with this flag and what follows it at the places of the earlier update, says the clock c: the clock is in
--- range, flag and last are in theirs, and the clock's earlier update is what is kept of them.
+-- range, its kind is 0 where the version holds none, flag and last are in their ranges, and the clock's earlier update is what is kept of
+-- them.
 pub record Says (version : ℕ) (c : Clock) (flag last : ℕ) : Type 0 where
   pub known : knownVersion version ≡ true
   pub sound : inRange c ≡ true
+  pub kind : suits (holdsKind version) kindRange (c .kind) ≡ true
   pub flagged : flagRange flag ≡ true
   pub ranged : lastRange version flag last ≡ true
   pub update : record { updated = c .updated; interval = c .interval } ≡ keptUpdate version flag last
@@ -63,14 +67,27 @@ OneForm = (s : List ℕ) → Bytes s → readingOf s .refusal ≡ 0 → Whole s 
 abbrev pub OneNewest : Type 0
 OneNewest = (s : List ℕ) → Bytes s → readingOf s .refusal ≡ 0 → versionOf s ≡ newest → s ≡ recordOf (readingOf s .clock)
 
--- .. of version 1: those of a clock in range that has no earlier update, with a flag and a second beside it, which are judged as document
--- 01 says and not kept
+-- .. of version 2: those of a clock of kind 0 in range
+pub record OfVersion2 (s : List ℕ) (c : Clock) : Type 0 where
+  pub sound : inRange c ≡ true
+  pub kind : c .kind ≡ kind256
+  pub written : s ≡ recordIn 2 c (c .updated) (c .interval)
+
+-- exactly these are read, and what is then written has the newest version and the kind in the place of its version, and is else the same
+pub record Version2 : Type 0 where
+  pub only : (s : List ℕ) → Bytes s → readingOf s .refusal ≡ 0 → versionOf s ≡ 2 → OfVersion2 s (readingOf s .clock)
+  pub always : (s : List ℕ) (c : Clock) → OfVersion2 s c → readingOf s ≡ accepted c
+  pub after : (s : List ℕ) (c : Clock) → OfVersion2 s c → recordOf c ≡ newest ∷ kind256 ∷ drop 1 s
+
+-- .. of version 1: those of a clock of kind 0 in range that has no earlier update, with a flag and a second beside it, which are judged as
+-- document 01 says and not kept
 pub record OfVersion1 (s : List ℕ) (c : Clock) : Type 0 where
   pub flag : ℕ
   pub second : ℕ
   pub flagged : flagRange flag ≡ true
   pub ranged : reftimeRange flag second ≡ true
   pub sound : inRange c ≡ true
+  pub kind : c .kind ≡ kind256
   pub none : (c .updated ≡ 0) × (c .interval ≡ 0)
   pub written : s ≡ recordIn 1 c flag second
 
@@ -82,10 +99,10 @@ pub record Version1 : Type 0 where
 
 -- ---- what is refused
 
--- a reading is accepted, or refused with 10, 11, 12 or 13 and the fresh clock
+-- a reading is accepted, or refused with 10, 11, 12 or 13 and the fresh clock of kind 0
 pub record Refused (x : Restored) : Type 0 where
   pub number : (10 ≤ x .refusal) × (x .refusal ≤ 13)
-  pub fresh : x .clock ≡ freshClock
+  pub fresh : x .clock ≡ freshClock kind256
 
 abbrev pub RefusedIsFresh : Type 0
 RefusedIsFresh = (s : List ℕ) → (readingOf s .refusal ≡ 0) ⊎ Refused (readingOf s)
@@ -98,7 +115,7 @@ pub record RefusedWhen (s : List ℕ) (r : ℕ) : Type 0 where
 abbrev pub ExactlyWhen : Type 0
 ExactlyWhen = (s : List ℕ) (r : ℕ) → 0 < r → RefusedWhen s r
 
--- ---- how long a record is, and the fresh clock's
+-- ---- how long a record is, and the fresh clocks'
 
 -- no record of the version is longer than n bytes, and one has n
 pub record LongestIs (version n : ℕ) : Type 0 where
@@ -109,14 +126,24 @@ pub record LongestIs (version n : ℕ) : Type 0 where
   pub says : Says version one flag last
   pub long : length (recordIn version one flag last) ≡ n
 
--- "The longest record is 45 bytes", of version 1; with the count in the place of the second it is 42
+-- "The longest record is 45 bytes", of version 1; with the count in the place of the second it is 42, and with the kind 43
 pub record Longest : Type 0 where
   pub version1 : LongestIs 1 45
   pub version2 : LongestIs 2 42
+  pub version3 : LongestIs 3 43
 
--- the fresh clock's record, as it is written
-abbrev pub freshRecord : List ℕ
-freshRecord =
+-- the fresh clocks' records, as they are written
+abbrev pub freshRecord256 : List ℕ
+freshRecord256 =
+    0x03 ∷ 0x00 ∷ 0x00 ∷ 0x00 ∷ 0x00 ∷ 0x00 ∷ 0x00 ∷ 0x80 ∷ 0x80 ∷ 0x80 ∷ 0x40 ∷ 0x00 ∷ 0x00 ∷ 0x00 ∷ 0x80 ∷ 0xC8 ∷ 0xD0 ∷ 0x07 ∷ 0x80 ∷ 0xC8 ∷ 0xD0 ∷ 0x07 ∷ 0x04 ∷ []
+
+abbrev pub freshRecord1024 : List ℕ
+freshRecord1024 =
+    0x03 ∷ 0x01 ∷ 0x00 ∷ 0x00 ∷ 0x00 ∷ 0x00 ∷ 0x00 ∷ 0x80 ∷ 0x80 ∷ 0x80 ∷ 0x90 ∷ 0x01 ∷ 0x00 ∷ 0x00 ∷ 0x00 ∷ 0x80 ∷ 0xC8 ∷ 0xD0 ∷ 0x07 ∷ 0x80 ∷ 0xC8 ∷ 0xD0 ∷ 0x07 ∷ 0x04 ∷ []
+
+-- that of kind 0 in version 2
+abbrev pub freshRecord2 : List ℕ
+freshRecord2 =
     0x02 ∷ 0x00 ∷ 0x00 ∷ 0x00 ∷ 0x00 ∷ 0x00 ∷ 0x80 ∷ 0x80 ∷ 0x80 ∷ 0x40 ∷ 0x00 ∷ 0x00 ∷ 0x00 ∷ 0x80 ∷ 0xC8 ∷ 0xD0 ∷ 0x07 ∷ 0x80 ∷ 0xC8 ∷ 0xD0 ∷ 0x07 ∷ 0x04 ∷ []
 
 -- document 01's, of version 1: "The fresh clock, whole, in hexadecimal"
@@ -124,10 +151,12 @@ abbrev pub freshRecord1 : List ℕ
 freshRecord1 =
     0x01 ∷ 0x00 ∷ 0x00 ∷ 0x00 ∷ 0x00 ∷ 0x00 ∷ 0x80 ∷ 0x80 ∷ 0x80 ∷ 0x40 ∷ 0x00 ∷ 0x00 ∷ 0x00 ∷ 0x80 ∷ 0xC8 ∷ 0xD0 ∷ 0x07 ∷ 0x80 ∷ 0xC8 ∷ 0xD0 ∷ 0x07 ∷ 0x04 ∷ []
 
--- the one is written, and the other is still read
+-- those of the newest version are written, and the others are still read
 pub record FreshRecords : Type 0 where
-  pub written : recordOf freshClock ≡ freshRecord
-  pub read : readingOf freshRecord1 ≡ accepted freshClock
+  pub written256 : recordOf (freshClock kind256) ≡ freshRecord256
+  pub written1024 : recordOf (freshClock kind1024) ≡ freshRecord1024
+  pub read2 : readingOf freshRecord2 ≡ accepted (freshClock kind256)
+  pub read1 : readingOf freshRecord1 ≡ accepted (freshClock kind256)
 
 -- ---- through a buffer
 

@@ -1,14 +1,16 @@
--- Reading a record from any bytes: what the reader answers. Document 01: "a refused record reading gives the fresh state".
+-- Reading a record from any bytes: what the reader answers. Document 01: "a refused record reading gives the fresh state"; document 02:
+-- "replay and refused record readings use kind 0".
 use mathlib.Core.List.{List}
 use Prim.Native.Nat.{ℕ}
 use Rattle.number.specs.Layout.{Outcome, got, failed, readFrom}
+use Rattle.clock.specs.Device.{kind256}
 use Rattle.clock.specs.State.{freshClock}
 use Rattle.clock.specs.declared.state.Clock.{Clock}
 use Rattle.record.specs.Layout.{recordLayout}
 use Rattle.record.specs.declared.restore.Restored.{Restored}
 
 abbrev pub refusedWith : ℕ → Restored
-refusedWith n = record { refusal = n; clock = freshClock }
+refusedWith n = record { refusal = n; clock = freshClock kind256 }
 
 abbrev pub accepted : Clock → Restored
 accepted c = record { refusal = 0; clock = c }

@@ -1,14 +1,23 @@
 // One field of a record: a number at a place, and its range.
 ghost use mathlib.Core.Path.{_≡_};
-ghost use Rattle.number.specs.Layout.{fieldAt};
+ghost use Rattle.number.specs.Layout.{fieldAt, placeAt, mappedRange};
 ghost use Rattle.number.specs.Mapping.{unmapped};
-ghost use Rattle.record.specs.Inner.{toldField, upTo, fromTo};
-ghost use Rattle.record.specs.Layout.{knownVersion};
+ghost use Rattle.clock.specs.Device.{kindRange};
+ghost use Rattle.record.specs.Inner.{toldField, upTo, betweenZ};
+ghost use Rattle.record.specs.Layout.{knownVersion, holdsKind};
+use crate::layout::KIND_SINCE;
 use crate::layout::VERSION;
+use clock::KIND_256;
+use clock::KIND_1024;
 use number::Decoded;
 
 // The last version that is read, as wide as the numbers that are.
 const LAST_VERSION: u64 = VERSION as u64;
+
+// The kind of records that hold none, and the last of the kinds.
+const OLDER_KIND: u32 = KIND_256 as u32;
+
+const LAST_KIND: u32 = KIND_1024 as u32;
 
 // What reading a field gives: its number, which is in its range, and the place after it; or the refusal, 10, 11 or 12.
 // A signed field's number is the one that it is mapped to.
@@ -35,6 +44,16 @@ pub(crate) fn version(bytes: &[u8]) -> Field
     }
 }
 
+// The kind of the device, which follows the version. Older records are of the first device, and hold no kind.
+pub(crate) fn kind(bytes: &[u8], at: usize, version: u32) -> Field
+    ensures { λ r. ⌜ toldField r ≡ placeAt (holdsKind version) kindRange (now (bytes .entry)) at ⌝ }
+{
+    if version < KIND_SINCE {
+        return Field::Value(OLDER_KIND, at);
+    }
+    plain(bytes, at, LAST_KIND)
+}
+
 // The field at `at` whose values are 0 to `most`.
 pub(crate) fn plain(bytes: &[u8], at: usize, most: u32) -> Field
     ensures { λ r. ⌜ toldField r ≡ fieldAt (upTo most) (now (bytes .entry)) at ⌝ }
@@ -50,19 +69,16 @@ pub(crate) fn plain(bytes: &[u8], at: usize, most: u32) -> Field
     }
 }
 
-// The mapped field at `at` whose values are `least` or more, and whose numbers are 0 to `most`.
-pub(crate) fn signed(bytes: &[u8], at: usize, least: i32, most: u32) -> Field
-    ensures { λ r. ⌜ toldField r ≡ fieldAt (fromTo least most) (now (bytes .entry)) at ⌝ }
+// The mapped field at `at` whose values are `least` to `most`.
+pub(crate) fn signed(bytes: &[u8], at: usize, least: i32, most: i32) -> Field
+    ensures { λ r. ⌜ toldField r ≡ fieldAt (mappedRange (betweenZ least most)) (now (bytes .entry)) at ⌝ }
 {
     match number::read(bytes, at) {
         Decoded::Refused(n) => Field::Refused(n),
         Decoded::Value { value, next } => {
-            if (most as u64) < value {
-                return Field::Refused(12);
-            }
-            let n = value as u32;
-            if least <= unmapped_of(n) {
-                return Field::Value(n, next);
+            let z = number::unmap(value);
+            if ((least as i64) <= z) & (z <= most as i64) {
+                return Field::Value(value as u32, next);
             }
             Field::Refused(12)
         }

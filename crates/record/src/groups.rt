@@ -12,6 +12,7 @@ use clock::PhaseUnits;
 // What stands before the table's fields.
 pub(crate) struct Head {
     pub version: u32,
+    pub kind: u8,
 }
 
 pub(crate) struct Time {
@@ -57,8 +58,8 @@ pub(crate) fn kept_update(version: u32, flag: u8, last: u32) -> Update
     }
 }
 
-pub(crate) fn clock_of(t: Time, l: Loop, a: Rate, u: Update, e: Errors) -> Clock
-    ensures { λ r. ⌜ r ≡ clockOf t l a u e ⌝ }
+pub(crate) fn clock_of(h: Head, t: Time, l: Loop, a: Rate, u: Update, e: Errors) -> Clock
+    ensures { λ r. ⌜ r ≡ clockOf h t l a u e ⌝ }
 {
     Clock {
         seconds: t.seconds,
@@ -73,5 +74,6 @@ pub(crate) fn clock_of(t: Time, l: Loop, a: Rate, u: Update, e: Errors) -> Clock
         maxerror: Micros(e.maxerror),
         esterror: Micros(e.esterror),
         status: e.status,
+        kind: h.kind,
     }
 }

@@ -3,8 +3,11 @@ ghost use mathlib.Core.Path.{_≡_};
 ghost use Rattle.record.specs.Layout.{numbersOf};
 use clock::Clock;
 
-// The version that is written, and the last of those that are read: they are 1 and 2.
-pub(crate) const VERSION: u32 = 2;
+// The version that is written, and the last of those that are read: they are 1, 2 and 3.
+pub(crate) const VERSION: u32 = 3;
+
+// The first version that holds the kind of the device.
+pub(crate) const KIND_SINCE: u32 = 3;
 
 fn wide(x: u8) -> u32
     ensures { λ r. ⌜ r ≡ x ⌝ }
@@ -12,8 +15,8 @@ fn wide(x: u8) -> u32
     x as u32
 }
 
-// How many numbers a record has.
-pub(crate) const NUMBERS: usize = 13;
+// How many numbers a record has that is written.
+pub(crate) const NUMBERS: usize = 14;
 
 // The numbers of a clock's record.
 pub(crate) fn numbers(c: Clock) -> [u32; NUMBERS]
@@ -25,6 +28,7 @@ pub(crate) fn numbers(c: Clock) -> [u32; NUMBERS]
     let adjustment = number::map(c.adjustment.0);
     [
         VERSION,
+        wide(c.kind),
         c.seconds,
         c.micros.0,
         phase,

@@ -5,6 +5,7 @@ ghost use Rattle.record.specs.Reading.{restored, readingOf, refusedWith}
 ghost use Rattle.number.specs.Inner.{refusedAs};
 ghost use Rattle.record.specs.Inner.{toldField, lastMost, fromTime, fromLoop, fromRate, fromUpdate, fromErrors};
 use crate::field::Field;
+use crate::field::kind;
 use crate::field::plain;
 use crate::field::signed;
 use crate::field::version;
@@ -17,6 +18,7 @@ use crate::groups::Update;
 use crate::groups::clock_of;
 use crate::groups::kept_update;
 use clock::Clock;
+use clock::KIND_256;
 use clock::LAST_MICRO;
 use clock::LAST_SECOND;
 use clock::MAX_CONSTANT;
@@ -25,21 +27,19 @@ use clock::MAX_FREQUENCY;
 use clock::MAX_INTERVAL;
 use clock::MAX_OFFSET;
 use clock::PHASE_UPPER_END;
-use clock::RECORDER_256;
 use clock::TIME_BAD;
+use clock::device_constants;
 use clock::fresh;
 
-// The greatest numbers that the signed fields are mapped to. But for the adjustment's, their ranges are as wide below 0 as above, so
-// that a number up to these is in range.
+// The greatest numbers that signed fields are mapped to whose ranges are as wide below 0 as above, so that a number up to these is in
+// range.
 const MAPPED_PHASE: u32 = 2 * (PHASE_UPPER_END as u32 - 1);
 
 const MAPPED_OFFSET: u32 = 2 * (MAX_OFFSET as u32);
 
 const MAPPED_FREQUENCY: u32 = 2 * (MAX_FREQUENCY as u32);
 
-const MAPPED_ADJUSTMENT: u32 = 2 * (RECORDER_256.most.0 as u32);
-
-// The answer of a reading: refusal 0 and the clock that was saved, or refusal 10, 11, 12 or 13 and the fresh clock.
+// The answer of a reading: refusal 0 and the clock that was saved, or refusal 10, 11, 12 or 13 and the fresh clock of kind 0.
 pub struct Restored {
     pub refusal: u8,
     pub clock: Clock,
@@ -48,9 +48,10 @@ pub struct Restored {
 fn refused_with(n: u8) -> Restored
     ensures { λ r. ⌜ r ≡ refusedWith n ⌝ }
 {
+    let unused = fresh(KIND_256).clock;
     Restored {
         refusal: n,
-        clock: fresh(),
+        clock: unused,
     }
 }
 
@@ -64,7 +65,7 @@ fn refused(d: Field) -> Restored
     }
 }
 
-// The largest number behind the flag of an earlier update: its second in version 1, the rollovers since it in version 2; 0 where there is none.
+// The largest number behind the flag of an earlier update: its second in version 1, else the rollovers since it; 0 where there is none.
 fn last_most(version: u32, flag: u32) -> u32
     ensures { λ r. ⌜ r ≡ lastMost version flag ⌝ }
 {
@@ -85,8 +86,16 @@ pub fn read(bytes: &[u8]) -> Restored
     let Field::Value(v, n0) = d0 else {
         return refused(d0);
     };
-    let h = Head { version: v };
-    time_fields(bytes, n0, h)
+    let d1 = kind(bytes, n0, v);
+    let Field::Value(k, n1) = d1 else {
+        return refused(d1);
+    };
+    let k = k as u8;
+    let h = Head {
+        version: v,
+        kind: k,
+    };
+    time_fields(bytes, n1, h)
 }
 
 // Each group of fields takes what was read before it, and hands it on to the next with its own. The groups are small: a call behind more
@@ -135,11 +144,12 @@ fn loop_fields(bytes: &[u8], at: usize, h: Head, t: Time) -> Restored
     rate_fields(bytes, n2, h, t, l)
 }
 
-// Adjustment and time constant.
+// Adjustment, in the range of the record's own device, and time constant.
 fn rate_fields(bytes: &[u8], at: usize, h: Head, t: Time, l: Loop) -> Restored
     ensures { λ r. ⌜ r ≡ restored (readFrom (fromRate h t l) (now (bytes .entry)) at) ⌝ }
 {
-    let d1 = signed(bytes, at, RECORDER_256.least.0, MAPPED_ADJUSTMENT);
+    let device = device_constants(h.kind).device;
+    let d1 = signed(bytes, at, device.least.0, device.most.0);
     let Field::Value(adjustment, n1) = d1 else {
         return refused(d1);
     };
@@ -193,7 +203,7 @@ fn error_fields(bytes: &[u8], at: usize, h: Head, t: Time, l: Loop, a: Rate, u: 
         esterror: esterror,
         status: status,
     };
-    finished(bytes, n3, clock_of(t, l, a, u, e))
+    finished(bytes, n3, clock_of(h, t, l, a, u, e))
 }
 
 // After the last field: nothing may follow.

@@ -1,52 +1,63 @@
--- `record::signed` meets its contract: its two tests are the range.
+-- `record::signed` meets its contract: its two tests are the range, and a number in range has 32 bits.
 use borrow.Author.Needs.{needs}
-use borrow.Author.Tests.{le-leb, lt-leb}
 use mathlib.Core.Path.{_≡_, sym, _∙_, ap}
+use mathlib.Core.Bool.{true, _&&_}
 use lib.Signed.{leZ}
-use mir.Syntax.{w32}
+use mir.Syntax.{w32, w64}
 use mir.Val.{SFits, toZ, ofZ}
 use mir.Facts.{toZ-ofZ}
 use Rattle.number.specs.Mapping.{unmapped}
+use Rattle.record.specs.Inner.{betweenZ}
+use Rattle.record.proofs.Ranges.{widen, between-small}
 use Rattle.record.proofs.FieldLaws.{field-no, field-in, field-out}
 use Rattle.record.proofs.field.signed.Statement.{statement}
 use Rattle.record.proofs.field.signed.Tie as tie
 
-abbrev start : tie.After-unmapped-of → tie.Start
-start c = c .before .before .before .before .before .before .before
+abbrev start : tie.After-unmap → tie.Start
+start c = c .before .before .before .before .before .before
 
 fits-least : (s : tie.Start) → SFits w32 (s .args .least)
 fits-least s = search needs
 
-fits-value : (c : tie.After-unmapped-of) → SFits w32 (c .unmapped-of .result)
+fits-most : (s : tie.Start) → SFits w32 (s .args .most)
+fits-most s = search needs
+
+fits-value : (c : tie.After-unmap) → SFits w64 (c .unmap .result)
 fits-value c = search needs
 
--- the code's test of the signed number is the range's
-tested : (c : tie.After-unmapped-of)
-    → leZ (toZ w32 (ofZ w32 (start c .args .least))) (toZ w32 (ofZ w32 (c .unmapped-of .result)))
-    ≡ leZ (start c .args .least) (unmapped (c .before .before .before .value .given .0 .0))
-tested c = rw (toZ-ofZ (fits-least (start c)), toZ-ofZ (fits-value c)) (ap (leZ (start c .args .least)) (c .unmapped-of .ensures))
+cast-if1 : tie.Need-cast-if1
+cast-if1 c = rw (toZ-ofZ (fits-least (start c))) (widen (fits-least (start c)))
+
+cast-if1-2 : tie.Need-cast-if1-2
+cast-if1-2 c = rw (toZ-ofZ (fits-most (start c))) (widen (fits-most (start c)))
+
+-- the code's tests of the signed number are the range's
+tested : (c : tie.After-unmap)
+    → leZ (toZ w64 (ofZ w64 (toZ w32 (ofZ w32 (start c .args .least))))) (toZ w64 (ofZ w64 (c .unmap .result)))
+    && leZ (toZ w64 (ofZ w64 (c .unmap .result))) (toZ w64 (ofZ w64 (toZ w32 (ofZ w32 (start c .args .most)))))
+    ≡ betweenZ (start c .args .least) (start c .args .most) (unmapped (c .before .before .value .given .0 .0))
+tested c =
+    let low = fits-least (start c) in
+    let high = fits-most (start c) in
+    rw (toZ-ofZ low, toZ-ofZ (widen low), toZ-ofZ high, toZ-ofZ (widen high), toZ-ofZ (fits-value c))
+    (ap (betweenZ (start c .args .least) (start c .args .most)) (c .unmap .ensures))
+
+inside : (c : tie.Then1) → betweenZ (start (c .before) .args .least) (start (c .before) .args .most) (unmapped (c .before .before .before .value .given .0 .0)) ≡ true
+inside c = sym (tested (c .before)) ∙ c .if1 .taken
+
+cast-t16 : tie.Need-cast-t16
+cast-t16 c = record { fits = between-small _ (fits-least (start (c .before))) (fits-most (start (c .before))) (inside c) }
 
 returns : tie.Need-returns
-returns c =
-    let v = c .before .before in
-    field-out _ _ _ (v .before .before .read .ensures) (v .value .given .1) (simp (lt-leb _ _ (c .if1 .taken)))
+returns c = let v = c .before .before .before in field-in _ _ _ (v .before .before .read .ensures) (v .value .given .1) (inside c)
 
 returns-2 : tie.Need-returns-2
-returns-2 c =
-    let u = c .before in
-    let v = u .before .before .before in
-    field-in _ _ _ (v .before .before .read .ensures) (v .value .given .1)
-    (simp (le-leb _ _ (u .before .if1 .left), sym (tested u) ∙ c .if2 .taken))
+returns-2 c = field-no _ _ _ (c .before .before .before .read .ensures) (c .before .n .given .1)
 
 returns-3 : tie.Need-returns-3
-returns-3 c = field-no _ _ _ (c .before .before .before .read .ensures) (c .before .n .given .1)
-
-returns-4 : tie.Need-returns-4
-returns-4 c =
-    let u = c .before in
-    let v = u .before .before .before in
-    field-out _ _ _ (v .before .before .read .ensures) (v .value .given .1)
-    (simp (le-leb _ _ (u .before .if1 .left), sym (tested u) ∙ c .if2 .left))
+returns-3 c =
+    let v = c .before .before .before in
+    field-out _ _ _ (v .before .before .read .ensures) (v .value .given .1) (sym (tested (c .before)) ∙ c .if1 .left)
 
 pub signed-spec : {M : Type 1} → statement M
 signed-spec =
@@ -55,9 +66,10 @@ signed-spec =
     (λ c κs. tt)
     (λ c. search needs)
     (λ c. search needs)
-    returns
-    (λ c. search needs)
     (λ c κs. tt)
+    cast-if1
+    cast-if1-2
+    cast-t16
+    returns
     returns-2
-    returns-3
-    returns-4)
+    returns-3)

@@ -3,7 +3,8 @@ use borrow.Author.Needs.{needs}
 use mir.Syntax.{w32}
 use mir.Val.{SFits}
 use mir.Facts.{toZ-ofZ}
-use Rattle.record.specs.Layout.{numbersIn}
+use Rattle.number.specs.Layout.{written}
+use Rattle.record.specs.Layout.{recordLayout, placesIn, numbersIn}
 use Rattle.record.proofs.layout.numbers.Statement.{statement}
 use Rattle.record.proofs.layout.numbers.Tie as tie
 
@@ -20,18 +21,19 @@ fits-adjustment : (s : tie.Start) → SFits w32 (s .args .c .adjustment .0)
 fits-adjustment s = search needs
 
 returns : tie.Need-returns
-unfolding numbersIn
+unfolding numbersIn written recordLayout placesIn
 returns c =
-    let m = c .before .before .before in
+    let m = c .before .before .before .before in
     let s = m .before .before .before .before .before .before .before .before in
     rw (
       m .before .before .before .before .before .before .map .ensures,
       m .before .before .before .before .map2 .ensures,
       m .before .before .map3 .ensures,
       m .map4 .ensures,
-      c .before .before .wide .ensures,
-      c .before .wide2 .ensures,
-      c .wide3 .ensures,
+      c .before .before .before .wide .ensures,
+      c .before .before .wide2 .ensures,
+      c .before .wide3 .ensures,
+      c .wide4 .ensures,
       toZ-ofZ (fits-phase s),
       toZ-ofZ (fits-offset s),
       toZ-ofZ (fits-frequency s),
@@ -42,6 +44,7 @@ pub numbers-spec : {M : Type 1} → statement M
 numbers-spec =
     tie.close
     (tie.spec
+    (λ c κs. tt)
     (λ c κs. tt)
     (λ c κs. tt)
     (λ c κs. tt)

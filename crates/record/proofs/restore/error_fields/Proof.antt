@@ -20,7 +20,7 @@ use Rattle.record.proofs.FieldLaws.{read-in}
 use Rattle.record.proofs.restore.error_fields.Statement.{statement}
 use Rattle.record.proofs.restore.error_fields.Tie as tie
 
-opened : (h : Head) (t : Time) (l : Loop) (a : Rate) (u : Update) (s : List ℕ) (at : ℕ) → restored (readFrom (fromErrors h t l a u) s at) ≡ restored (readFrom (errorFields (λ e. whole (clockOf t l a u e))) s at)
+opened : (h : Head) (t : Time) (l : Loop) (a : Rate) (u : Update) (s : List ℕ) (at : ℕ) → restored (readFrom (fromErrors h t l a u) s at) ≡ restored (readFrom (errorFields (λ e. whole (clockOf h t l a u e))) s at)
 unfolding fromErrors
 opened h t l a u s at = refl
 

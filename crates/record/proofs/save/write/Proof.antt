@@ -5,9 +5,10 @@ use mathlib.Core.Path.{_≡_, refl, sym, _∙_, ap}
 use mathlib.Core.Bool.{true}
 use native.Mathlib.Omega.{arith}
 use Rattle.number.specs.Form.{bytesOfAll}
+use Rattle.number.specs.Layout.{written}
 use Rattle.number.specs.Writing.{answered, filled}
 use Rattle.clock.specs.State.{inRange}
-use Rattle.record.specs.Layout.{numbersIn, recordIn, recordOf}
+use Rattle.record.specs.Layout.{recordLayout, placesIn, numbersIn, recordIn, recordOf}
 use Rattle.record.proofs.SavingLaws.{Drafted, drafted, copied, out-of-range, too-short, stored}
 use Rattle.record.proofs.save.write.Statement.{statement}
 use Rattle.record.proofs.save.write.Tie as tie
@@ -20,7 +21,7 @@ unfolding recordIn
 whole c = ap bytesOfAll (c .before .before .before .numbers .ensures)
 
 draft : (c : tie.After-write-all) → Drafted (start c .args .c) (c .write-all .result) (c .write-all .last .0)
-unfolding numbersIn
+unfolding numbersIn written recordLayout placesIn
 draft c =
     drafted (start c .args .c) _ refl
     (c .write-all .ensures .answer ∙ ap (answered _ 0) (whole c))
