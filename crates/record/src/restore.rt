@@ -48,10 +48,10 @@ pub struct Restored {
 fn refused_with(n: u8) -> Restored
     ensures { λ r. ⌜ r ≡ refusedWith n ⌝ }
 {
-    let unused = fresh(KIND_256).clock;
+    let clock = fresh(KIND_256).clock;
     Restored {
         refusal: n,
-        clock: unused,
+        clock: clock,
     }
 }
 
