@@ -10,6 +10,7 @@ use lib.Dec.{eqb, ltb}
 use lib.ListN.{length}
 use Rattle.integers.proofs.Ranges.{and-true}
 use Rattle.clock.specs.declared.state.Clock.{Clock}
+use Rattle.clock.specs.Device.{deviceOf}
 use Rattle.clock.specs.State.{inRange, freshClock, lastSecond, statusOop, statusBad}
 use Rattle.clock.proofs.Ok.{ok}
 use Rattle.clock.specs.Units.{secondsPerDay, lastSecondOfDay}
@@ -43,22 +44,23 @@ abbrev pub clockAt : ℕ → Bool → Clock
 clockAt s sixty =
     record {
       seconds = s;
-      micros = freshClock .micros;
-      phase = freshClock .phase;
-      offset = freshClock .offset;
-      frequency = freshClock .frequency;
-      adjustment = freshClock .adjustment;
-      constant = freshClock .constant;
-      updated = freshClock .updated;
-      interval = freshClock .interval;
-      maxerror = freshClock .maxerror;
-      esterror = freshClock .esterror;
+      micros = freshClock 0 .micros;
+      phase = freshClock 0 .phase;
+      offset = freshClock 0 .offset;
+      frequency = freshClock 0 .frequency;
+      adjustment = freshClock 0 .adjustment;
+      constant = freshClock 0 .constant;
+      updated = freshClock 0 .updated;
+      interval = freshClock 0 .interval;
+      maxerror = freshClock 0 .maxerror;
+      esterror = freshClock 0 .esterror;
       status = cond sixty statusOop statusBad;
+      kind = 0;
     }
 
 module _ (s : ℕ) (h : s ≤ lastSecond) where
   clock-sound : (sixty : Bool) → inRange (clockAt s sixty) ≡ true
-  unfolding inRange
+  unfolding inRange deviceOf
   clock-sound true = rw (le-leb s lastSecond (omega arith))
   clock-sound false = rw (le-leb s lastSecond (omega arith))
 
