@@ -5,6 +5,7 @@
  *
  * Many ticks in one call are written run_judged, run_looped, and by closed form twice: run_closed and run_position. A build has the one
  * that RUN names, run_closed if none is named, and runs the words `second` and `catch-up` and the ticks of a replay by it; all builds print the same.
+ * The words `tick-1024`, `second-1024` and `catch-up-1024` are of the 1,024 Hz recorder, all others of the one of 256 Hz.
  *
  * strftime N, strptime N: the label operations by the C library, which judges less; their checksums stand alone.
  */
@@ -23,9 +24,10 @@
 #define MAX_LEFT 2097135616
 #define MAX_INTERVAL 1024
 #define PHASE_US (1 << 28) /* phase units in a microsecond */
-#define BASE 67108864      /* the 64 us a second that 256 x 3,906 us lack */
 
 enum { OK, INS, DEL, OOP, BAD };
+
+enum { KIND_256, KIND_1024 };
 
 enum { OFFSET = 1, FREQUENCY = 2, MAXERROR = 4, ESTERROR = 8, STATUS = 16, CONSTANT = 32 };
 
@@ -42,7 +44,27 @@ struct clock {
 	uint32_t maxerror;
 	uint32_t esterror;
 	uint8_t status;
+	uint8_t kind;
 };
+
+/*
+ * What sets the recorders apart. A call for ticks asks once which kind it has, and goes on in code of that kind, where these are constants: of
+ * the forms tried the fewest instructions. With conditional moves or tables in their place a tick takes a sixth more.
+ */
+struct device {
+	int32_t tick;        /* whole us of a tick */
+	uint32_t most_tick;  /* the most us that a tick adds */
+	int32_t scale;       /* phase units a tick for each offset unit of the share */
+	int32_t divisor;     /* frequency units that make one phase unit a tick */
+	int32_t base;        /* phase units a tick for what the ticks lack of a second */
+	int32_t least, most; /* adjustment */
+};
+
+static const struct device recorder_256 = { 3906, 3908, 64, 16, 67108864, -168819712, 303037440 };
+static const struct device recorder_1024 = { 976, 977, 16, 64, 150994944, 92012800, 209977088 };
+
+/* A function whose device is known where it is called. */
+#define constant_device static inline __attribute__((always_inline))
 
 struct request {
 	uint64_t mode;
@@ -55,19 +77,19 @@ struct request {
 };
 
 static const struct clock fresh = {
-	.adjustment = BASE,
+	.adjustment = 67108864,
 	.maxerror = MAX_ERROR,
 	.esterror = MAX_ERROR,
 	.status = BAD,
 };
 
-static bool in_range(const struct clock *c)
+constant_device bool in_range_on(const struct device *d, const struct clock *c)
 {
 	return c->micros <= 999999
 		&& -PHASE_US < c->phase && c->phase < PHASE_US
 		&& -MAX_LEFT <= c->offset && c->offset <= MAX_LEFT
 		&& -MAX_FREQUENCY <= c->frequency && c->frequency <= MAX_FREQUENCY
-		&& -168819712 <= c->adjustment && c->adjustment <= 303037440
+		&& d->least <= c->adjustment && c->adjustment <= d->most
 		&& c->constant <= 4
 		&& c->updated <= 1 && c->interval <= c->updated * MAX_INTERVAL
 		&& c->maxerror <= MAX_ERROR
@@ -75,7 +97,26 @@ static bool in_range(const struct clock *c)
 		&& c->status <= BAD;
 }
 
-static inline void leap(struct clock *c)
+/* The least adjustment of each kind, and how far its greatest lies above it. */
+static const uint32_t least_adjustment[] = { -168819712, 92012800 };
+static const uint32_t adjustment_span[] = { 471857152, 117964288 };
+
+/* For the calls that need no other constant of the device: a table takes fewer instructions there than a jump to code of the kind. */
+static bool in_range(const struct clock *c)
+{
+	return c->kind <= KIND_1024
+		&& c->micros <= 999999
+		&& -PHASE_US < c->phase && c->phase < PHASE_US
+		&& -MAX_LEFT <= c->offset && c->offset <= MAX_LEFT
+		&& -MAX_FREQUENCY <= c->frequency && c->frequency <= MAX_FREQUENCY
+		&& (uint32_t)c->adjustment - least_adjustment[c->kind] <= adjustment_span[c->kind]
+		&& c->constant <= 4
+		&& c->updated <= 1 && c->interval <= c->updated * MAX_INTERVAL
+		&& c->maxerror <= MAX_ERROR
+		&& c->esterror <= MAX_ERROR
+		&& c->status <= BAD;
+}
+static inline __attribute__((always_inline)) void leap(struct clock *c)
 {
 	switch (c->status) {
 	case INS:
@@ -96,25 +137,32 @@ static inline void leap(struct clock *c)
 	}
 }
 
+/* Of a number that is a kind. */
+static inline const struct device *device_of(uint32_t kind)
+{
+	return kind == KIND_256 ? &recorder_256 : &recorder_1024;
+}
+
 /* Apart from the tick, so that the ticks within a second stay short. */
 static __attribute__((noinline)) void rollover(struct clock *c)
 {
+	const struct device *d = device_of(c->kind);
 	c->seconds++;
 	c->maxerror = c->maxerror <= MAX_ERROR - 100 ? c->maxerror + 100 : MAX_ERROR;
 	int32_t share = c->offset / (1 << (10 + c->constant));
 	c->offset -= share;
-	c->adjustment = 64 * share + c->frequency / 16 + BASE;
+	c->adjustment = d->scale * share + c->frequency / d->divisor + d->base;
 	c->interval += c->interval < c->updated * MAX_INTERVAL;
 	leap(c);
 }
 
-static int tick(struct clock *c)
+constant_device int tick_on(const struct device *d, struct clock *c)
 {
-	if (!in_range(c))
+	if (!in_range_on(d, c))
 		return 1;
 	int32_t sum = c->phase + c->adjustment;
 	int32_t carry = sum / PHASE_US;
-	uint32_t micros = c->micros + 3906 + carry;
+	uint32_t micros = c->micros + d->tick + carry;
 	if (micros < 1000000) {
 		c->micros = micros;
 		c->phase = sum - carry * PHASE_US;
@@ -126,6 +174,15 @@ static int tick(struct clock *c)
 	c->phase = sum - carry * PHASE_US;
 	rollover(c);
 	return 0;
+}
+
+static int tick(struct clock *c)
+{
+	switch (c->kind) {
+	case KIND_256: return tick_on(&recorder_256, c);
+	case KIND_1024: return tick_on(&recorder_1024, c);
+	default: return 1;
+	}
 }
 
 /* Many ticks in one call: how many were accepted, and the refusal of the one that ended them, or 0. */
@@ -140,12 +197,12 @@ struct run {
 };
 
 /* Single ticks: each judges the state. */
-static inline struct run run_judged(struct clock *c, uint64_t n, bool stop)
+constant_device struct run run_judged(const struct device *d, struct clock *c, uint64_t n, bool stop)
 {
 	struct run r = { 0, 0 };
 	while (r.count < n) {
 		uint32_t before = c->micros;
-		r.refusal = tick(c);
+		r.refusal = tick_on(d, c);
 		if (r.refusal)
 			break;
 		r.count++;
@@ -156,7 +213,7 @@ static inline struct run run_judged(struct clock *c, uint64_t n, bool stop)
 }
 
 /* Tick by tick, on a state that was judged once: the two fields that every tick moves in registers. */
-static inline struct run run_looped(struct clock *c, uint64_t n, bool stop)
+constant_device struct run run_looped(const struct device *d, struct clock *c, uint64_t n, bool stop)
 {
 	uint64_t left = n;
 	uint32_t micros = c->micros;
@@ -165,7 +222,7 @@ static inline struct run run_looped(struct clock *c, uint64_t n, bool stop)
 	for (; left; left--) {
 		int32_t sum = phase + c->adjustment;
 		int32_t carry = sum / PHASE_US;
-		uint32_t next = micros + 3906 + carry;
+		uint32_t next = micros + d->tick + carry;
 		if (unlikely(next >= 1000000)) {
 			if (c->seconds == LAST_SECOND) {
 				refusal = 3;
@@ -187,13 +244,13 @@ static inline struct run run_looped(struct clock *c, uint64_t n, bool stop)
 }
 
 /* A rollover but for its count, with what does not change in a run worked out before it. */
-static inline void roll(struct clock *c, int32_t divisor, int32_t base)
+constant_device void roll(const struct device *d, struct clock *c, int32_t divisor, int32_t base)
 {
 	c->seconds++;
 	c->maxerror = c->maxerror <= MAX_ERROR - 100 ? c->maxerror + 100 : MAX_ERROR;
 	int32_t share = c->offset / divisor;
 	c->offset -= share;
-	c->adjustment = 64 * share + base;
+	c->adjustment = d->scale * share + base;
 	if (likely(c->status == OK || c->status == BAD))
 		return;
 	leap(c);
@@ -208,36 +265,35 @@ static inline uint32_t counted(const struct clock *c, uint64_t rolled)
 
 /*
  * On a state that was judged once, the ticks of a second in one step. Between rollovers the adjustment is constant, so j ticks carry
- * (phase + j adjustments) / 2^28 whole microseconds. A tick adds at most 3,908 us, so none but the last of the j can reach the end.
- * The state in a copy, the count downwards, the usual case first, in line: of the forms tried the fewest instructions for a second of ticks,
- * but for one that limits the interval at each rollover: that saves one instruction of 135 there, and costs four in a hundred for many seconds.
+ * (phase + j adjustments) / 2^28 whole microseconds. A tick adds at most 3,908 or 977 us, so none but the last of the j can reach the end.
+ * The state in a copy, the count downwards, the usual case first, in line: of the forms tried the fewest instructions for a second of ticks.
  */
-static inline __attribute__((always_inline)) struct run run_closed(struct clock *state, uint64_t n, bool stop)
+constant_device struct run run_closed(const struct device *d, struct clock *state, uint64_t n, bool stop)
 {
 	struct clock c = *state;
-	const int32_t divisor = 1 << (10 + c.constant), base = c.frequency / 16 + BASE;
+	const int32_t divisor = 1 << (10 + c.constant), base = c.frequency / d->divisor + d->base;
 	uint64_t left = n, rolled = c.interval;
 	int refusal = 0;
 	while (left) {
-		uint64_t j = (999999 - c.micros) / 3908 + 1;
+		uint64_t j = (999999 - c.micros) / d->most_tick + 1;
 		if (j > left)
 			j = left;
 		int64_t sum = c.phase + (int64_t)j * c.adjustment;
 		int32_t carry = sum / PHASE_US;
-		uint32_t micros = c.micros + 3906 * (uint32_t)j + carry;
+		uint32_t micros = c.micros + d->tick * (uint32_t)j + carry;
 		if (likely(micros >= 1000000)) {
 			if (unlikely(c.seconds == LAST_SECOND)) {
 				j--;
 				sum -= c.adjustment;
 				carry = sum / PHASE_US;
-				c.micros += 3906 * (uint32_t)j + carry;
+				c.micros += d->tick * (uint32_t)j + carry;
 				c.phase = sum - carry * (int64_t)PHASE_US;
 				left -= j;
 				refusal = 3;
 				break;
 			}
 			micros -= 1000000;
-			roll(&c, divisor, base);
+			roll(d, &c, divisor, base);
 			rolled++;
 			if (stop) {
 				n -= left - j;
@@ -253,19 +309,19 @@ static inline __attribute__((always_inline)) struct run run_closed(struct clock 
 	return (struct run){ n - left, refusal };
 }
 
-static __attribute__((noinline, unused)) struct run run_rest(struct clock *state, uint64_t n, bool stop)
+static __attribute__((noinline, unused)) struct run run_rest(const struct device *d, struct clock *state, uint64_t n, bool stop)
 {
-	return run_closed(state, n, stop);
+	return run_closed(d, state, n, stop);
 }
 
 /*
  * The place in the second as one number of phase units, and a 64-bit division for the ticks that are left of it: one step a second, for many
  * seconds the fewest instructions of the forms tried. Where phase or adjustment is negative, as run_closed.
  */
-static inline __attribute__((always_inline)) struct run run_position(struct clock *state, uint64_t n, bool stop)
+constant_device struct run run_position(const struct device *d, struct clock *state, uint64_t n, bool stop)
 {
 	struct clock c = *state;
-	const int32_t divisor = 1 << (10 + c.constant), base = c.frequency / 16 + BASE;
+	const int32_t divisor = 1 << (10 + c.constant), base = c.frequency / d->divisor + d->base;
 	const int64_t second = INT64_C(1000000) << 28;
 	uint64_t left = n, rolled = c.interval;
 	int refusal = 0;
@@ -273,7 +329,7 @@ static inline __attribute__((always_inline)) struct run run_position(struct cloc
 	if (likely(c.phase >= 0)) {
 		int64_t at = ((int64_t)c.micros << 28) + c.phase;
 		while (left && c.adjustment >= 0) {
-			int64_t step = (INT64_C(3906) << 28) + c.adjustment;
+			int64_t step = ((int64_t)d->tick << 28) + c.adjustment;
 			uint64_t j = (uint64_t)(second - 1 - at) / (uint64_t)step + 1;
 			if (j > left)
 				j = left;
@@ -286,7 +342,7 @@ static inline __attribute__((always_inline)) struct run run_position(struct cloc
 					break;
 				}
 				at -= second;
-				roll(&c, divisor, base);
+				roll(d, &c, divisor, base);
 				rolled++;
 				if (stop) {
 					left -= j;
@@ -302,7 +358,7 @@ static inline __attribute__((always_inline)) struct run run_position(struct cloc
 	}
 	*state = c;
 	if (unlikely(left && !refusal && !stopped)) {
-		struct run r = run_rest(state, left, stop);
+		struct run r = run_rest(d, state, left, stop);
 		return (struct run){ n - left + r.count, r.refusal };
 	}
 	return (struct run){ n - left, refusal };
@@ -312,22 +368,67 @@ static inline __attribute__((always_inline)) struct run run_position(struct cloc
 #define RUN run_closed
 #endif
 
+/*
+ * The runs of each kind, for each of their callers. For a replay they are called, and for a catch-up gcc works them out and then puts them into
+ * its code: the other way about either takes a fifth more instructions.
+ */
+static __attribute__((noinline)) struct run run_256(struct clock *c, uint64_t n)
+{
+	return RUN(&recorder_256, c, n, false);
+}
+
+static __attribute__((noinline)) struct run run_1024(struct clock *c, uint64_t n)
+{
+	return RUN(&recorder_1024, c, n, false);
+}
+
+static struct run catch_up_256(struct clock *c, uint64_t n, bool stop)
+{
+	return RUN(&recorder_256, c, n, stop);
+}
+
+static struct run catch_up_1024(struct clock *c, uint64_t n, bool stop)
+{
+	return RUN(&recorder_1024, c, n, stop);
+}
+
 static int run_ticks(struct clock *c, uint64_t n)
 {
-	if (!in_range(c))
+	switch (c->kind) {
+	case KIND_256:
+		if (!in_range_on(&recorder_256, c))
+			return 1;
+		return run_256(c, n).refusal;
+	case KIND_1024:
+		if (!in_range_on(&recorder_1024, c))
+			return 1;
+		return run_1024(c, n).refusal;
+	default:
 		return 1;
-	return RUN(c, n, false).refusal;
+	}
 }
 
 static int catch_up(struct clock *c, uint64_t ceiling, bool stop, struct run *r)
 {
 	*r = (struct run){ 0, 0 };
-	if (!in_range(c))
+	switch (c->kind) {
+	case KIND_256:
+		if (!in_range_on(&recorder_256, c))
+			return 1;
+		if (ceiling > MAX_CEILING)
+			return 16;
+		*r = catch_up_256(c, ceiling, stop);
+		return 0;
+	case KIND_1024:
+		if (!in_range_on(&recorder_1024, c))
+			return 1;
+		if (ceiling > MAX_CEILING)
+			return 16;
+		*r = catch_up_1024(c, ceiling, stop);
+		return 0;
+	default:
 		return 1;
-	if (ceiling > MAX_CEILING)
-		return 16;
-	*r = RUN(c, ceiling, stop);
-	return 0;
+	}
 }
 
 static int set(struct clock *c, uint64_t seconds, uint64_t micros)
@@ -340,7 +441,8 @@ static int set(struct clock *c, uint64_t seconds, uint64_t micros)
 	c->micros = micros;
 	c->phase = 0;
 	c->offset = 0;
-	c->adjustment = c->frequency / 16 + BASE;
+	const struct device *d = device_of(c->kind);
+	c->adjustment = c->frequency / d->divisor + d->base;
 	c->updated = 0;
 	c->interval = 0;
 	c->maxerror = MAX_ERROR;
@@ -445,9 +547,13 @@ static uint32_t map(int32_t v)
 	return (uint32_t)v << 1 ^ (uint32_t)(v >> 31);
 }
 
-/* Records. Version 2 is written; in version 1 the second of the last offset stands at the place of the interval. */
+/*
+ * Records. Version 3 is written; the earlier ones lack the kind, which is 0, and in version 1 the second of the last offset stands at the
+ * place of the interval.
+ */
 
-#define RECORD_NUMBERS 13
+#define VERSION 3
+#define RECORD_NUMBERS 14
 
 static int record_write(const struct clock *c, uint8_t *buf, size_t len, size_t *length)
 {
@@ -455,7 +561,8 @@ static int record_write(const struct clock *c, uint8_t *buf, size_t len, size_t 
 	if (!in_range(c))
 		return 1;
 	const uint32_t numbers[RECORD_NUMBERS] = {
-		2,
+		VERSION,
+		c->kind,
 		c->seconds,
 		c->micros,
 		map(c->phase),
@@ -512,15 +619,16 @@ static int signed_field(const uint8_t *bytes, size_t len, size_t *at, int32_t le
 static int fields_read(const uint8_t *bytes, size_t len, struct clock *c)
 {
 	size_t at = 0;
-	uint32_t version, constant, updated, status;
+	uint32_t version, kind = KIND_256, constant, updated, status;
 	int refusal;
-	if ((refusal = plain_field(bytes, len, &at, 1, 2, &version))
+	if ((refusal = plain_field(bytes, len, &at, 1, VERSION, &version))
+		|| (version == VERSION && (refusal = plain_field(bytes, len, &at, 0, KIND_1024, &kind)))
 		|| (refusal = plain_field(bytes, len, &at, 0, LAST_SECOND, &c->seconds))
 		|| (refusal = plain_field(bytes, len, &at, 0, 999999, &c->micros))
 		|| (refusal = signed_field(bytes, len, &at, 1 - PHASE_US, PHASE_US - 1, &c->phase))
 		|| (refusal = signed_field(bytes, len, &at, -MAX_LEFT, MAX_LEFT, &c->offset))
 		|| (refusal = signed_field(bytes, len, &at, -MAX_FREQUENCY, MAX_FREQUENCY, &c->frequency))
-		|| (refusal = signed_field(bytes, len, &at, -168819712, 303037440, &c->adjustment))
+		|| (refusal = signed_field(bytes, len, &at, device_of(kind)->least, device_of(kind)->most, &c->adjustment))
 		|| (refusal = plain_field(bytes, len, &at, 0, 4, &constant))
 		|| (refusal = plain_field(bytes, len, &at, 0, 1, &updated))
 		|| (refusal = plain_field(bytes, len, &at, 0, !updated ? 0 : version == 1 ? LAST_SECOND : MAX_INTERVAL, &c->interval))
@@ -533,6 +641,7 @@ static int fields_read(const uint8_t *bytes, size_t len, struct clock *c)
 	c->constant = constant;
 	c->updated = updated;
 	c->status = status;
+	c->kind = kind;
 	if (version == 1) {
 		c->updated = 0;
 		c->interval = 0;
@@ -756,7 +865,8 @@ static uint64_t mix_clock(uint64_t sum, const struct clock *c)
 	sum = mix(mix(sum, map(c->frequency)), map(c->adjustment));
 	sum = mix(mix(sum, c->constant), c->updated);
 	sum = mix(mix(sum, c->interval), c->maxerror);
-	return mix(mix(sum, c->esterror), c->status);
+	sum = mix(mix(sum, c->esterror), c->status);
+	return mix(sum, c->kind);
 }
 
 /* What the operations work on, taken from memory as the program runs: so the compiler cannot know what is in range. */
@@ -772,8 +882,11 @@ static uint32_t small(const uint64_t *values, uint64_t i)
 	return values[i % 64] % 64;
 }
 
-/* A clock with work to do: an offset of 1,000 us to pay off, a frequency, and time constant 2. */
-static struct clock begun(const uint64_t *values)
+/*
+ * A clock of a kind with work to do: an offset of 1,000 us to pay off, a frequency, and time constant 2. Its adjustment lies in the ranges of
+ * both kinds.
+ */
+static struct clock begun(const uint64_t *values, int kind)
 {
 	struct clock c = {
 		.seconds = small(values, 43) * 2000,
@@ -781,22 +894,23 @@ static struct clock begun(const uint64_t *values)
 		.phase = small(values, 0),
 		.offset = small(values, 10) * 1638400,
 		.frequency = small(values, 12) * 10288,
-		.adjustment = small(values, 40) * 1677721,
+		.adjustment = small(values, 40) * 3355443,
 		.constant = small(values, 2),
 		.updated = small(values, 1),
 		.interval = small(values, 0),
 		.maxerror = small(values, 16) * 1000000,
 		.esterror = small(values, 16) * 1000000,
 		.status = small(values, 0),
+		.kind = small(values, kind),
 	};
 	return c;
 }
 
-static uint64_t ticks(uint64_t count)
+static uint64_t ticks(int kind, uint64_t count)
 {
 	uint64_t values[64], sum = 0;
 	fill_numbers(values);
-	struct clock c = begun(values);
+	struct clock c = begun(values, kind);
 	for (uint64_t i = 0; i < count; i++) {
 		int refusal = tick(&c);
 		sum = mix(mix(sum, refusal), c.micros);
@@ -804,11 +918,11 @@ static uint64_t ticks(uint64_t count)
 	return mix_clock(sum, &c);
 }
 
-static uint64_t catch_ups(uint64_t ceiling, uint64_t count)
+static uint64_t catch_ups(int kind, uint64_t ceiling, uint64_t count)
 {
 	uint64_t values[64], sum = 0;
 	fill_numbers(values);
-	struct clock c = begun(values);
+	struct clock c = begun(values, kind);
 	for (uint64_t i = 0; i < count; i++) {
 		struct run r;
 		int refusal = catch_up(&c, ceiling, false, &r);
@@ -818,21 +932,41 @@ static uint64_t catch_ups(uint64_t ceiling, uint64_t count)
 	return mix_clock(sum, &c);
 }
 
-static uint64_t seconds(uint64_t count)
+static uint64_t ticks_256(uint64_t count)
 {
-	return catch_ups(256, count);
+	return ticks(KIND_256, count);
 }
 
-static uint64_t greatest_catch_ups(uint64_t count)
+static uint64_t ticks_1024(uint64_t count)
 {
-	return catch_ups(MAX_CEILING, count);
+	return ticks(KIND_1024, count);
+}
+
+static uint64_t seconds_256(uint64_t count)
+{
+	return catch_ups(KIND_256, 256, count);
+}
+
+static uint64_t seconds_1024(uint64_t count)
+{
+	return catch_ups(KIND_1024, 1024, count);
+}
+
+static uint64_t greatest_256(uint64_t count)
+{
+	return catch_ups(KIND_256, MAX_CEILING, count);
+}
+
+static uint64_t greatest_1024(uint64_t count)
+{
+	return catch_ups(KIND_1024, MAX_CEILING, count);
 }
 
 static uint64_t request_some(struct clock *c, uint64_t count)
 {
 	uint64_t values[64], sum = 0;
 	fill_numbers(values);
-	*c = begun(values);
+	*c = begun(values, KIND_256);
 	for (uint64_t i = 0; i < count; i++) {
 		uint64_t k = i / 64;
 		struct request r = {
@@ -1010,9 +1144,12 @@ int main(int argc, char **argv)
 		const char *word;
 		uint64_t (*run)(uint64_t count);
 	} operations[] = {
-		{ "tick", ticks },
-		{ "second", seconds },
-		{ "catch-up", greatest_catch_ups },
+		{ "tick", ticks_256 },
+		{ "tick-1024", ticks_1024 },
+		{ "second", seconds_256 },
+		{ "second-1024", seconds_1024 },
+		{ "catch-up", greatest_256 },
+		{ "catch-up-1024", greatest_1024 },
 		{ "request", requests },
 		{ "label-write", label_writes },
 		{ "label-read", label_reads },

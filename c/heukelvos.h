@@ -33,7 +33,7 @@ extern "C" {
 /* Refusals. Each call says below which of them it can answer; 10 to 13 and 15 are those of the readers, which C has not yet. */
 enum heukelvos_refusal {
 	HEUKELVOS_ACCEPTED = 0,
-	HEUKELVOS_REFUSED_STATE = 1,     /* a field of the clock lies outside its range */
+	HEUKELVOS_REFUSED_STATE = 1,     /* a field of the clock lies outside its range, or a number is no kind of device */
 	HEUKELVOS_REFUSED_TIME = 2,      /* a setting outside the ranges of seconds or microseconds */
 	HEUKELVOS_REFUSED_LAST = 3,      /* a tick that would roll over from the last second */
 	HEUKELVOS_REFUSED_MODE = 4,      /* a mode above 63 */
@@ -60,6 +60,12 @@ enum heukelvos_status {
 	HEUKELVOS_TIME_BAD = 4  /* not synchronized */
 };
 
+/* The kind of a clock's device. */
+enum heukelvos_kind {
+	HEUKELVOS_KIND_256 = 0, /* the 256 Hz recorder: a second has 255 to 257 ticks */
+	HEUKELVOS_KIND_1024 = 1 /* the 1,024 Hz recorder: a second has 1,023 to 1,025 ticks */
+};
+
 /* The bits of a request's mode. */
 enum heukelvos_mode {
 	HEUKELVOS_ADJ_OFFSET = 1,
@@ -79,8 +85,10 @@ enum heukelvos_mode {
 #define HEUKELVOS_MAX_OFFSET_MICROS 127999     /* us, either way: what a request may ask for */
 #define HEUKELVOS_MAX_OFFSET 2097135616        /* offset units, either way: what may be left of it */
 #define HEUKELVOS_MAX_FREQUENCY 1677721600     /* frequency units, 100 ppm either way */
-#define HEUKELVOS_LEAST_ADJUSTMENT (-168819712) /* phase units a tick */
-#define HEUKELVOS_MOST_ADJUSTMENT 303037440
+#define HEUKELVOS_LEAST_ADJUSTMENT_256 (-168819712) /* phase units a tick, of the 256 Hz recorder */
+#define HEUKELVOS_MOST_ADJUSTMENT_256 303037440
+#define HEUKELVOS_LEAST_ADJUSTMENT_1024 92012800 /* phase units a tick, of the 1,024 Hz recorder */
+#define HEUKELVOS_MOST_ADJUSTMENT_1024 209977088
 #define HEUKELVOS_MAX_CONSTANT 4
 #define HEUKELVOS_MAX_INTERVAL 1024            /* rollovers since the last offset: later ones are not counted */
 #define HEUKELVOS_MAX_ERROR 16000000           /* us, both errors */
@@ -97,16 +105,17 @@ struct heukelvos_clock {
 	int32_t phase;      /* the part of a microsecond that no reading shows; phase units, less than a microsecond either way */
 	int32_t offset;     /* what is left of the last offset; offset units, at most HEUKELVOS_MAX_OFFSET either way */
 	int32_t frequency;  /* frequency units, at most HEUKELVOS_MAX_FREQUENCY either way */
-	int32_t adjustment; /* what each tick adds to the phase; phase units, HEUKELVOS_LEAST_ADJUSTMENT to HEUKELVOS_MOST_ADJUSTMENT */
+	int32_t adjustment; /* what each tick adds to the phase; phase units, between the ends of the clock's kind, which are allowed */
 	uint8_t constant;   /* time constant of the loop, as a power of two: 0 to 4 */
 	uint8_t updated;    /* 1 if an offset was accepted since the last setting, else 0 */
 	uint32_t interval;  /* rollovers since that offset, with or without a leap, 0 to HEUKELVOS_MAX_INTERVAL; 0 if there is none */
 	uint32_t maxerror;  /* 0 to 16,000,000 us */
 	uint32_t esterror;  /* 0 to 16,000,000 us */
 	uint8_t status;     /* enum heukelvos_status */
+	uint8_t kind;       /* enum heukelvos_kind; no call changes it */
 };
 
-/* The answer of a call that may change the clock: 48 bytes. */
+/* The answer of a call that may change the clock, and of heukelvos_fresh: 48 bytes. */
 struct heukelvos_outcome {
 	uint8_t refusal;
 	struct heukelvos_clock clock; /* after the call; where it is refused, as it was handed in */
@@ -158,7 +167,7 @@ struct heukelvos_told {
 /*
  * The clock lent, and changed in place: for a timer handler.
  *
- * heukelvos_tick: one tick of the 256 Hz timer, hardclock() of RFC 1589. Answers 0; or 1, 3, and the clock is as it was, not written to.
+ * heukelvos_tick: one tick of the device's timer, hardclock() of RFC 1589. Answers 0; or 1, 3, and the clock is as it was, not written to.
  *
  * heukelvos_catch_up: up to `ceiling` ticks in one call, the same as that many single ones, as far as the first that is refused; with
  * `stop`, none after one that rolls the second over (an inserted second counts as one). Answers refusal 1 for a clock out of range, then 16
@@ -172,20 +181,21 @@ struct heukelvos_counted heukelvos_catch_up(struct heukelvos_clock *clock, uint6
 /*
  * By value: the clock goes in and comes back in the answer, and the caller's own stays as it is.
  *
- * heukelvos_fresh      a clock to which nothing has happened yet, which counts as set to 0 s
+ * heukelvos_fresh      a clock of a kind to which nothing has happened yet, which counts as set to 0 s. Refusal 1 for a number that is no
+ *                      kind: the clock is then that of kind 0
  * heukelvos_in_range   whether every field lies in its range
  * heukelvos_ticked     what heukelvos_tick answers and leaves
  * heukelvos_caught_up  what heukelvos_catch_up answers and leaves
- * heukelvos_set        the clock set to seconds since 1970, 0 to 4,294,967,295, and microseconds, 0 to 999,999. Frequency and time constant
- *                      stay; phase and offset left are 0, no offset counts as accepted, both errors are 16,000,000 us, the status is BAD.
- *                      Refusals 1, 2
+ * heukelvos_set        the clock set to seconds since 1970, 0 to 4,294,967,295, and microseconds, 0 to 999,999. Frequency, time
+ *                      constant and kind stay; phase and offset left are 0, no offset counts as accepted, both errors are 16,000,000 us,
+ *                      the status is BAD. Refusals 1, 2
  * heukelvos_adjust     the clock with every selected field's effect, ntp_adjtime() of RFC 1589. An offset (us) moves the frequency by
  *                      offset x interval / 4^constant, within its range, and the interval is then 0. A status is written only where the
  *                      clock is OK or BAD is written; an offset turns BAD to OK, unless the same request writes BAD. Refusals 1, 4, 5,
  *                      6, 7, 8, 9
  * heukelvos_read       what the clock shows. Refusal 1: the reading is then zeros and status 4
  */
-struct heukelvos_clock heukelvos_fresh(void);
+struct heukelvos_outcome heukelvos_fresh(uint8_t kind);
 bool heukelvos_in_range(struct heukelvos_clock clock);
 struct heukelvos_outcome heukelvos_ticked(struct heukelvos_clock clock);
 struct heukelvos_catch_up_answer heukelvos_caught_up(struct heukelvos_clock clock, uint64_t ceiling, bool stop);

@@ -27,6 +27,7 @@ PLACE(heukelvos_clock, interval, 28);
 PLACE(heukelvos_clock, maxerror, 32);
 PLACE(heukelvos_clock, esterror, 36);
 PLACE(heukelvos_clock, status, 40);
+PLACE(heukelvos_clock, kind, 41);
 SIZE(heukelvos_outcome, 48);
 PLACE(heukelvos_outcome, refusal, 0);
 PLACE(heukelvos_outcome, clock, 4);
@@ -59,20 +60,30 @@ PLACE(heukelvos_told, reading, 4);
 
 typedef struct heukelvos_clock Clock;
 
+/* What sets the devices apart: rate (Hz), ends and fresh value of the adjustment (phase units), and the frequency units of one phase unit. */
+#define KINDS 2
+static const struct device {
+	int rate;
+	int32_t least, most, base, divisor;
+} devices[KINDS] = {
+	[HEUKELVOS_KIND_256] = { 256, HEUKELVOS_LEAST_ADJUSTMENT_256, HEUKELVOS_MOST_ADJUSTMENT_256, 67108864, 16 },
+	[HEUKELVOS_KIND_1024] = { 1024, HEUKELVOS_LEAST_ADJUSTMENT_1024, HEUKELVOS_MOST_ADJUSTMENT_1024, 150994944, 64 },
+};
+
 static bool same(Clock a, Clock b)
 {
 	return a.seconds == b.seconds && a.micros == b.micros && a.phase == b.phase && a.offset == b.offset
 		&& a.frequency == b.frequency && a.adjustment == b.adjustment && a.constant == b.constant
 		&& a.updated == b.updated && a.interval == b.interval && a.maxerror == b.maxerror
-		&& a.esterror == b.esterror && a.status == b.status;
+		&& a.esterror == b.esterror && a.status == b.status && a.kind == b.kind;
 }
 
 static void show(const char *name, Clock c)
 {
 	printf("    %s: %" PRIu32 " s %" PRIu32 " us, phase %" PRId32 ", offset %" PRId32 ", frequency %" PRId32
-	       ", adjustment %" PRId32 ", constant %d, updated %d, interval %" PRIu32 ", errors %" PRIu32 " %" PRIu32 ", status %d\n",
+	       ", adjustment %" PRId32 ", constant %d, updated %d, interval %" PRIu32 ", errors %" PRIu32 " %" PRIu32 ", status %d, kind %d\n",
 	       name, c.seconds, c.micros, c.phase, c.offset, c.frequency, c.adjustment, c.constant, c.updated, c.interval,
-	       c.maxerror, c.esterror, c.status);
+	       c.maxerror, c.esterror, c.status, c.kind);
 }
 
 /* A clock with a frequency (units), an offset (us), a time constant and then a status asked for. */
@@ -89,10 +100,15 @@ static Clock asked_for(Clock c, int64_t frequency, int64_t offset, uint64_t cons
 	return heukelvos_adjust(c, r).clock;
 }
 
-/* The same of a fresh clock that was set to a time. */
-static Clock adjusted(uint64_t seconds, uint64_t micros, int64_t frequency, int64_t offset, uint64_t constant, uint64_t status)
+static Clock fresh(int kind)
 {
-	return asked_for(heukelvos_set(heukelvos_fresh(), seconds, micros).clock, frequency, offset, constant, status);
+	return heukelvos_fresh(kind).clock;
+}
+
+/* The same of a fresh clock that was set to a time. */
+static Clock adjusted(int kind, uint64_t seconds, uint64_t micros, int64_t frequency, int64_t offset, uint64_t constant, uint64_t status)
+{
+	return asked_for(heukelvos_set(fresh(kind), seconds, micros).clock, frequency, offset, constant, status);
 }
 
 /* What heukelvos.h says of a catch-up, by single ticks in place. The microseconds fall at a rollover, also where a second is inserted. */
@@ -140,41 +156,41 @@ static bool catches_up(Clock c, uint64_t ceiling, bool stop)
 
 static const uint64_t midnight = 1798761600; /* 2027-01-01T00:00:00Z */
 
-/* Clocks to catch up: plain ones, one before each kind of leap, some at the end of time, extreme ones. */
+/* Clocks of a kind to catch up: plain ones, one before each kind of leap, some at the end of time, extreme ones. */
 #define CLOCKS 13
-static Clock sound(int n)
+static Clock sound(int kind, int n)
 {
 	Clock c;
 	switch (n) {
-	case 0: return heukelvos_fresh();
-	case 1: return adjusted(midnight, 0, 50 * HEUKELVOS_FREQUENCY_PER_PPM, 1000, 2, HEUKELVOS_TIME_OK);
-	case 2: return adjusted(midnight - 2, 500000, 0, 0, 0, HEUKELVOS_TIME_INS);
-	case 3: return adjusted(midnight - 1, 999999, -1, 7, 0, HEUKELVOS_TIME_INS);
-	case 4: return adjusted(midnight - 2, 996000, 1, -7, 4, HEUKELVOS_TIME_DEL);
-	case 5: return adjusted(midnight - 1, 0, 0, 0, 1, HEUKELVOS_TIME_OOP);
-	case 6: return adjusted(HEUKELVOS_LAST_SECOND - 1, 0, 0, 0, 0, HEUKELVOS_TIME_OK);
-	case 7: return adjusted(HEUKELVOS_LAST_SECOND, 0, 0, 0, 0, HEUKELVOS_TIME_OK);
-	case 8: return adjusted(HEUKELVOS_LAST_SECOND, 999999, 0, 0, 0, HEUKELVOS_TIME_INS);
-	case 9: return adjusted(0, 0, HEUKELVOS_MAX_FREQUENCY - 1, HEUKELVOS_MAX_OFFSET_MICROS, 0, HEUKELVOS_TIME_OK);
-	case 10: return adjusted(0, 0, 1 - HEUKELVOS_MAX_FREQUENCY, -HEUKELVOS_MAX_OFFSET_MICROS, 0, HEUKELVOS_TIME_OK);
+	case 0: return fresh(kind);
+	case 1: return adjusted(kind, midnight, 0, 50 * HEUKELVOS_FREQUENCY_PER_PPM, 1000, 2, HEUKELVOS_TIME_OK);
+	case 2: return adjusted(kind, midnight - 2, 500000, 0, 0, 0, HEUKELVOS_TIME_INS);
+	case 3: return adjusted(kind, midnight - 1, 999999, -1, 7, 0, HEUKELVOS_TIME_INS);
+	case 4: return adjusted(kind, midnight - 2, 996000, 1, -7, 4, HEUKELVOS_TIME_DEL);
+	case 5: return adjusted(kind, midnight - 1, 0, 0, 0, 1, HEUKELVOS_TIME_OOP);
+	case 6: return adjusted(kind, HEUKELVOS_LAST_SECOND - 1, 0, 0, 0, 0, HEUKELVOS_TIME_OK);
+	case 7: return adjusted(kind, HEUKELVOS_LAST_SECOND, 0, 0, 0, 0, HEUKELVOS_TIME_OK);
+	case 8: return adjusted(kind, HEUKELVOS_LAST_SECOND, 999999, 0, 0, 0, HEUKELVOS_TIME_INS);
+	case 9: return adjusted(kind, 0, 0, HEUKELVOS_MAX_FREQUENCY - 1, HEUKELVOS_MAX_OFFSET_MICROS, 0, HEUKELVOS_TIME_OK);
+	case 10: return adjusted(kind, 0, 0, 1 - HEUKELVOS_MAX_FREQUENCY, -HEUKELVOS_MAX_OFFSET_MICROS, 0, HEUKELVOS_TIME_OK);
 	case 11:
-		c = adjusted(midnight - 3, 0, 0, 1000, 2, HEUKELVOS_TIME_INS);
+		c = adjusted(kind, midnight - 3, 0, 0, 1000, 2, HEUKELVOS_TIME_INS);
 		c.interval = HEUKELVOS_MAX_INTERVAL - 4;
 		return c;
 	default:
-		c = heukelvos_fresh();
+		c = fresh(kind);
 		c.micros = HEUKELVOS_LAST_MICRO;
 		c.phase = HEUKELVOS_PHASE_PER_MICRO - 1;
-		c.adjustment = HEUKELVOS_LEAST_ADJUSTMENT;
+		c.adjustment = devices[kind].least;
 		return c;
 	}
 }
 
 /* Clocks with one field out of its range, each of which the library must see in its place; 11 counts from an offset that there is not. */
-#define FAULTS 16
-static Clock unsound(int n)
+#define FAULTS 18
+static Clock unsound(int kind, int n)
 {
-	Clock c = heukelvos_fresh();
+	Clock c = fresh(kind);
 	switch (n) {
 	case 0: c.micros = HEUKELVOS_LAST_MICRO + 1; break;
 	case 1: c.phase = HEUKELVOS_PHASE_PER_MICRO; break;
@@ -183,62 +199,82 @@ static Clock unsound(int n)
 	case 4: c.offset = -HEUKELVOS_MAX_OFFSET - 1; break;
 	case 5: c.frequency = HEUKELVOS_MAX_FREQUENCY + 1; break;
 	case 6: c.frequency = -HEUKELVOS_MAX_FREQUENCY - 1; break;
-	case 7: c.adjustment = HEUKELVOS_LEAST_ADJUSTMENT - 1; break;
-	case 8: c.adjustment = HEUKELVOS_MOST_ADJUSTMENT + 1; break;
+	case 7: c.adjustment = devices[kind].least - 1; break;
+	case 8: c.adjustment = devices[kind].most + 1; break;
 	case 9: c.constant = HEUKELVOS_MAX_CONSTANT + 1; break;
 	case 10: c.updated = 2; break;
 	case 11: c.interval = 1; break;
 	case 12: c.updated = 1, c.interval = HEUKELVOS_MAX_INTERVAL + 1; break;
 	case 13: c.maxerror = HEUKELVOS_MAX_ERROR + 1; break;
 	case 14: c.esterror = HEUKELVOS_MAX_ERROR + 1; break;
-	default: c.status = HEUKELVOS_TIME_BAD + 1; break;
+	case 15: c.status = HEUKELVOS_TIME_BAD + 1; break;
+	case 16: c.kind = HEUKELVOS_KIND_1024 + 1; break;
+	default: c.kind = UINT8_MAX; break;
 	}
 	return c;
 }
 
-/* Clocks with fields at the ends of their ranges. */
-static bool ends(void)
+/* Clocks of a kind with fields at the ends of their ranges. */
+static bool ends(int kind)
 {
-	Clock most = heukelvos_fresh(), least = most;
+	Clock most = fresh(kind), least = most;
 	most.seconds = HEUKELVOS_LAST_SECOND;
 	most.micros = HEUKELVOS_LAST_MICRO;
 	most.phase = HEUKELVOS_PHASE_PER_MICRO - 1;
 	most.offset = HEUKELVOS_MAX_OFFSET;
 	most.frequency = HEUKELVOS_MAX_FREQUENCY;
-	most.adjustment = HEUKELVOS_MOST_ADJUSTMENT;
+	most.adjustment = devices[kind].most;
 	most.constant = HEUKELVOS_MAX_CONSTANT;
 	most.updated = 1;
 	most.interval = HEUKELVOS_MAX_INTERVAL;
 	least.phase = 1 - HEUKELVOS_PHASE_PER_MICRO;
 	least.offset = -HEUKELVOS_MAX_OFFSET;
 	least.frequency = -HEUKELVOS_MAX_FREQUENCY;
-	least.adjustment = HEUKELVOS_LEAST_ADJUSTMENT;
+	least.adjustment = devices[kind].least;
 	least.maxerror = least.esterror = least.status = 0;
 	return heukelvos_in_range(most) && heukelvos_in_range(least);
 }
 
-static bool layout(void)
+static bool layout(int kind)
 {
-	Clock fresh = { 0 };
-	fresh.adjustment = HEUKELVOS_PHASE_PER_MICRO / 4;
-	fresh.maxerror = fresh.esterror = HEUKELVOS_MAX_ERROR;
-	fresh.status = HEUKELVOS_TIME_BAD;
-	if (!same(heukelvos_fresh(), fresh) || !heukelvos_in_range(fresh) || !ends())
-		return false;
+	Clock c = adjusted(kind, 5, 6, 7, 8, 3, HEUKELVOS_TIME_DEL);
 	for (int n = 0; n < FAULTS; n++)
-		if (heukelvos_in_range(unsound(n)))
+		if (heukelvos_in_range(unsound(kind, n)))
 			return printf("    fault %d is not seen\n", n), false;
-	Clock c = adjusted(5, 6, 7, 8, 3, HEUKELVOS_TIME_DEL);
-	return c.seconds == 5 && c.micros == 6 && c.frequency == 7 && c.offset == 8 * HEUKELVOS_OFFSET_PER_MICRO && c.constant == 3
-		&& c.updated == 1 && c.interval == 0 && c.status == HEUKELVOS_TIME_DEL && heukelvos_in_range(c);
+	return ends(kind) && c.seconds == 5 && c.micros == 6 && c.frequency == 7 && c.offset == 8 * HEUKELVOS_OFFSET_PER_MICRO && c.constant == 3
+		&& c.updated == 1 && c.interval == 0 && c.status == HEUKELVOS_TIME_DEL && c.kind == kind && heukelvos_in_range(c);
 }
 
-static bool million_ticks(void)
+/* The fresh clock of each kind; of every other number refusal 1, and the clock of kind 0. */
+static bool fresh_clocks(void)
 {
-	Clock lent = adjusted(1798761590, 0, 33 * HEUKELVOS_FREQUENCY_PER_PPM, -20000, 0, HEUKELVOS_TIME_INS);
+	for (int number = 0; number <= UINT8_MAX; number++) {
+		bool known = number < KINDS;
+		struct heukelvos_outcome o = heukelvos_fresh(number);
+		Clock c = { 0 };
+		c.kind = known ? number : HEUKELVOS_KIND_256;
+		c.adjustment = devices[c.kind].base;
+		c.maxerror = c.esterror = HEUKELVOS_MAX_ERROR;
+		c.status = HEUKELVOS_TIME_BAD;
+		if (o.refusal != (known ? HEUKELVOS_ACCEPTED : HEUKELVOS_REFUSED_STATE) || !same(o.clock, c) || !heukelvos_in_range(c)) {
+			printf("    number %d: refusal %d\n", number, o.refusal);
+			show("fresh", o.clock);
+			return false;
+		}
+	}
+	return true;
+}
+
+/* A million ticks from ten seconds before a leap on: a rollover at which it is made counts a second less, or one more. */
+static bool through(int kind, int leap)
+{
+	Clock lent = adjusted(kind, midnight - 10, 0, 33 * HEUKELVOS_FREQUENCY_PER_PPM, -20000, 0, leap);
+	uint64_t rollovers = 0;
 	for (int n = 0; n < 1000000; n++) {
+		uint32_t before = lent.micros;
 		struct heukelvos_outcome value = heukelvos_ticked(lent);
 		uint8_t refusal = heukelvos_tick(&lent);
+		rollovers += lent.micros < before;
 		if (refusal != 0 || value.refusal != 0 || !same(lent, value.clock)) {
 			printf("    tick %d: refusal %d, by value %d\n", n, refusal, value.refusal);
 			show("lent", lent);
@@ -246,7 +282,43 @@ static bool million_ticks(void)
 			return false;
 		}
 	}
-	return lent.status == HEUKELVOS_TIME_OK; /* the inserted second has passed */
+	return lent.status == HEUKELVOS_TIME_OK && lent.kind == kind
+		&& lent.seconds == midnight - 10 + rollovers + (leap == HEUKELVOS_TIME_DEL) - (leap == HEUKELVOS_TIME_INS);
+}
+
+static bool million_ticks(int kind)
+{
+	return through(kind, HEUKELVOS_TIME_INS) && through(kind, HEUKELVOS_TIME_DEL);
+}
+
+/* The seconds of a clock: none with fewer ticks than one below the rate, none with more than one above it, and at least one of `ticks`. */
+static bool lasts(Clock c, uint64_t ticks)
+{
+	uint64_t rate = devices[c.kind].rate;
+	bool met = false;
+	for (int n = 0; n < 100; n++) {
+		uint64_t count = heukelvos_catch_up(&c, HEUKELVOS_MAX_CEILING, true).count;
+		if (count < rate - 1 || rate + 1 < count) {
+			printf("    a second of %" PRIu64 " ticks\n", count);
+			return show("after it", c), false;
+		}
+		met = met || count == ticks;
+	}
+	return met || (printf("    no second of %" PRIu64 " ticks\n", ticks), false);
+}
+
+/* A fresh clock's second has as many ticks as the rate says, to the phase unit. That of the fastest clock has one fewer now and then, that of
+   the slowest one more. */
+static bool seconds_of_ticks(int kind)
+{
+	int rate = devices[kind].rate;
+	Clock c = fresh(kind);
+	for (int n = 1; n < rate; n++)
+		if (heukelvos_tick(&c) != 0 || c.seconds != 0)
+			return printf("    tick %d\n", n), show("after it", c), false;
+	if (heukelvos_tick(&c) != 0 || c.seconds != 1 || c.micros != 0 || c.phase != 0)
+		return show("after a second", c), false;
+	return lasts(c, rate) && lasts(sound(kind, 9), rate - 1) && lasts(sound(kind, 10), rate + 1);
 }
 
 /*
@@ -282,11 +354,11 @@ static int32_t gained(Clock c)
 }
 
 /* The interval: rollovers, and not seconds, since the last offset. */
-static bool intervals(void)
+static bool intervals(int kind)
 {
-	Clock plain = adjusted(midnight, 0, 0, 1000, 0, HEUKELVOS_TIME_OK), none = heukelvos_set(plain, midnight, 0).clock;
-	Clock inserted = adjusted(midnight - 3, 0, 0, 1000, 0, HEUKELVOS_TIME_INS);
-	Clock deleted = adjusted(midnight - 3, 0, 0, 1000, 0, HEUKELVOS_TIME_DEL);
+	Clock plain = adjusted(kind, midnight, 0, 0, 1000, 0, HEUKELVOS_TIME_OK), none = heukelvos_set(plain, midnight, 0).clock;
+	Clock inserted = adjusted(kind, midnight - 3, 0, 0, 1000, 0, HEUKELVOS_TIME_INS);
+	Clock deleted = adjusted(kind, midnight - 3, 0, 0, 1000, 0, HEUKELVOS_TIME_DEL);
 	struct heukelvos_request other = { 0 };
 	other.mode = HEUKELVOS_ADJ_MAXERROR;
 	if (!counts(&inserted, 5) || inserted.seconds != midnight + 1 || inserted.interval != 5 || gained(inserted) != 5000)
@@ -303,24 +375,25 @@ static bool intervals(void)
 }
 
 /* A refused tick leaves the lent clock as it was. */
-static bool refused_ticks(void)
+static bool refused_ticks(int kind)
 {
 	for (int n = 0; n < FAULTS; n++) {
-		Clock lent = unsound(n);
-		if (heukelvos_tick(&lent) != HEUKELVOS_REFUSED_STATE || !same(lent, unsound(n)))
+		Clock lent = unsound(kind, n);
+		if (heukelvos_tick(&lent) != HEUKELVOS_REFUSED_STATE || !same(lent, unsound(kind, n)))
 			return printf("    fault %d\n", n), false;
 	}
-	Clock lent = sound(8);
-	return heukelvos_tick(&lent) == HEUKELVOS_REFUSED_LAST && same(lent, sound(8)) && heukelvos_ticked(lent).refusal == HEUKELVOS_REFUSED_LAST;
+	Clock last = sound(kind, 8), lent = last;
+	return heukelvos_tick(&lent) == HEUKELVOS_REFUSED_LAST && same(lent, last) && heukelvos_ticked(lent).refusal == HEUKELVOS_REFUSED_LAST;
 }
 
-static bool edges(void)
+static bool edges(int kind)
 {
-	static const uint64_t ceilings[] = { 0, 1, 2, 3, 254, 255, 256, 257, 258, 511, 512, 513, 1000, 65535, 65536, 65537, 131072,
-		UINT64_C(0x100000000), UINT64_C(0x100000001), UINT64_C(0x8000000000000000), UINT64_MAX };
+	static const uint64_t ceilings[] = { 0, 1, 2, 3, 254, 255, 256, 257, 258, 511, 512, 513, 1000, 1022, 1023, 1024, 1025, 1026, 2047,
+		2048, 2049, 65535, 65536, 65537, 131072, UINT64_C(0x100000000), UINT64_C(0x100000001), UINT64_C(0x8000000000000000),
+		UINT64_MAX };
 	for (size_t k = 0; k < sizeof ceilings / sizeof *ceilings; k++)
 		for (int n = 0; n < 2 * (CLOCKS + FAULTS); n++) {
-			Clock c = n / 2 < CLOCKS ? sound(n / 2) : unsound(n / 2 - CLOCKS);
+			Clock c = n / 2 < CLOCKS ? sound(kind, n / 2) : unsound(kind, n / 2 - CLOCKS);
 			if (!catches_up(c, ceilings[k], n % 2))
 				return false;
 		}
@@ -341,7 +414,7 @@ static uint64_t draw(uint64_t below)
 static Clock spoilt(Clock c)
 {
 	uint32_t any = draw(UINT64_C(1) << 32);
-	switch (draw(9)) {
+	switch (draw(10)) {
 	case 0: c.micros = any; break;
 	case 1: c.phase = (int32_t)any; break;
 	case 2: c.offset = (int32_t)any; break;
@@ -350,6 +423,7 @@ static Clock spoilt(Clock c)
 	case 5: c.updated = any % 4; break;
 	case 6: c.maxerror = any; break;
 	case 7: c.interval = any; break;
+	case 8: c.kind = any % 4; break;
 	default: c.status = any % 8; break;
 	}
 	return c;
@@ -359,7 +433,7 @@ static bool random_runs(void)
 {
 	bool right = true;
 	for (int n = 0; n < 200000 && right; n++) {
-		Clock c = adjusted(draw(3) ? draw(UINT64_C(1) << 32) : HEUKELVOS_LAST_SECOND - draw(3), draw(1000000),
+		Clock c = adjusted(draw(KINDS), draw(3) ? draw(UINT64_C(1) << 32) : HEUKELVOS_LAST_SECOND - draw(3), draw(1000000),
 		                   (int64_t)draw(UINT64_C(2) * HEUKELVOS_MAX_FREQUENCY - 1) - HEUKELVOS_MAX_FREQUENCY + 1,
 		                   (int64_t)draw(2 * HEUKELVOS_MAX_OFFSET_MICROS + 1) - HEUKELVOS_MAX_OFFSET_MICROS, draw(5), draw(5));
 		if (draw(4))
@@ -367,52 +441,52 @@ static bool random_runs(void)
 		else
 			c.updated = 0;
 		if (draw(2))
-			c = heukelvos_caught_up(c, draw(1000), false).clock;
+			c = heukelvos_caught_up(c, draw(2000), false).clock;
 		if (draw(8) == 0)
 			c = spoilt(c);
-		right = catches_up(c, draw(20) ? draw(1500) : draw(70000), draw(2));
+		right = catches_up(c, draw(20) ? draw(2100) : draw(70000), draw(2));
 	}
 	return right;
 }
 
 /* The refusal of a request that asks for one thing. */
-static uint8_t asked(uint64_t mode, int64_t number)
+static uint8_t asked(int kind, uint64_t mode, int64_t number)
 {
 	struct heukelvos_request r = { mode, number, number, number, number, number, number };
-	struct heukelvos_outcome o = heukelvos_adjust(heukelvos_fresh(), r);
-	if (o.refusal != 0 && !same(o.clock, heukelvos_fresh()))
+	struct heukelvos_outcome o = heukelvos_adjust(fresh(kind), r);
+	if (o.refusal != 0 && !same(o.clock, fresh(kind)))
 		return UINT8_MAX;
 	return o.refusal;
 }
 
 /* Each bit of the mode selects its field, whose refusal has its number at the first value that is not allowed. */
-static bool requests(void)
+static bool requests(int kind)
 {
-	return asked(63, 0) == 0 && asked(64, 0) == HEUKELVOS_REFUSED_MODE
-		&& asked(HEUKELVOS_ADJ_OFFSET, HEUKELVOS_MAX_OFFSET_MICROS) == 0
-		&& asked(HEUKELVOS_ADJ_OFFSET, -HEUKELVOS_MAX_OFFSET_MICROS - 1) == HEUKELVOS_REFUSED_OFFSET
-		&& asked(HEUKELVOS_ADJ_FREQUENCY, 1 - HEUKELVOS_MAX_FREQUENCY) == 0
-		&& asked(HEUKELVOS_ADJ_FREQUENCY, HEUKELVOS_MAX_FREQUENCY) == HEUKELVOS_REFUSED_FREQUENCY
-		&& asked(HEUKELVOS_ADJ_MAXERROR, HEUKELVOS_MAX_ERROR) == 0
-		&& asked(HEUKELVOS_ADJ_MAXERROR, HEUKELVOS_MAX_ERROR + 1) == HEUKELVOS_REFUSED_ERROR
-		&& asked(HEUKELVOS_ADJ_ESTERROR, HEUKELVOS_MAX_ERROR) == 0
-		&& asked(HEUKELVOS_ADJ_ESTERROR, HEUKELVOS_MAX_ERROR + 1) == HEUKELVOS_REFUSED_ERROR
-		&& asked(HEUKELVOS_ADJ_STATUS, HEUKELVOS_TIME_BAD) == 0
-		&& asked(HEUKELVOS_ADJ_STATUS, HEUKELVOS_TIME_BAD + 1) == HEUKELVOS_REFUSED_STATUS
-		&& asked(HEUKELVOS_ADJ_TIMECONST, HEUKELVOS_MAX_CONSTANT) == 0
-		&& asked(HEUKELVOS_ADJ_TIMECONST, HEUKELVOS_MAX_CONSTANT + 1) == HEUKELVOS_REFUSED_CONSTANT;
+	return asked(kind, 63, 0) == 0 && asked(kind, 64, 0) == HEUKELVOS_REFUSED_MODE
+		&& asked(kind, HEUKELVOS_ADJ_OFFSET, HEUKELVOS_MAX_OFFSET_MICROS) == 0
+		&& asked(kind, HEUKELVOS_ADJ_OFFSET, -HEUKELVOS_MAX_OFFSET_MICROS - 1) == HEUKELVOS_REFUSED_OFFSET
+		&& asked(kind, HEUKELVOS_ADJ_FREQUENCY, 1 - HEUKELVOS_MAX_FREQUENCY) == 0
+		&& asked(kind, HEUKELVOS_ADJ_FREQUENCY, HEUKELVOS_MAX_FREQUENCY) == HEUKELVOS_REFUSED_FREQUENCY
+		&& asked(kind, HEUKELVOS_ADJ_MAXERROR, HEUKELVOS_MAX_ERROR) == 0
+		&& asked(kind, HEUKELVOS_ADJ_MAXERROR, HEUKELVOS_MAX_ERROR + 1) == HEUKELVOS_REFUSED_ERROR
+		&& asked(kind, HEUKELVOS_ADJ_ESTERROR, HEUKELVOS_MAX_ERROR) == 0
+		&& asked(kind, HEUKELVOS_ADJ_ESTERROR, HEUKELVOS_MAX_ERROR + 1) == HEUKELVOS_REFUSED_ERROR
+		&& asked(kind, HEUKELVOS_ADJ_STATUS, HEUKELVOS_TIME_BAD) == 0
+		&& asked(kind, HEUKELVOS_ADJ_STATUS, HEUKELVOS_TIME_BAD + 1) == HEUKELVOS_REFUSED_STATUS
+		&& asked(kind, HEUKELVOS_ADJ_TIMECONST, HEUKELVOS_MAX_CONSTANT) == 0
+		&& asked(kind, HEUKELVOS_ADJ_TIMECONST, HEUKELVOS_MAX_CONSTANT + 1) == HEUKELVOS_REFUSED_CONSTANT;
 }
 
-static bool other_calls(void)
+static bool other_calls(int kind)
 {
 	uint8_t text[22], untouched[22];
 	memset(untouched, 'x', sizeof untouched);
 	memcpy(text, untouched, sizeof text);
-	Clock c = sound(2);
+	Clock c = sound(kind, 2);
 	struct heukelvos_told t = heukelvos_read(c);
-	struct heukelvos_told none = heukelvos_read(unsound(0));
+	struct heukelvos_told none = heukelvos_read(unsound(kind, 0));
 	return heukelvos_label(c, text, 19) == HEUKELVOS_REFUSED_ROOM && memcmp(text, untouched, sizeof text) == 0
-		&& heukelvos_label(unsound(0), text, 0) == HEUKELVOS_REFUSED_STATE && memcmp(text, untouched, sizeof text) == 0
+		&& heukelvos_label(unsound(kind, 0), text, 0) == HEUKELVOS_REFUSED_STATE && memcmp(text, untouched, sizeof text) == 0
 		&& heukelvos_label(c, text, sizeof text) == 0 && memcmp(text, "2026-12-31T23:59:58Zxx", sizeof text) == 0
 		&& t.refusal == 0 && t.reading.seconds == c.seconds && t.reading.micros == 500000 && t.reading.status == HEUKELVOS_TIME_INS
 		&& t.reading.maxerror == c.maxerror && t.reading.esterror == c.esterror
@@ -421,7 +495,16 @@ static bool other_calls(void)
 		&& heukelvos_set(c, UINT64_C(1) << 32, 0).refusal == HEUKELVOS_REFUSED_TIME && same(heukelvos_set(c, 0, 1000000).clock, c);
 }
 
-/* The day of calls on one lent clock. With `history` the events, else the lines. */
+/* A setting keeps the frequency and the kind, and so its adjustment is what both lead to. */
+static bool settings(int kind)
+{
+	int32_t frequency = -33 * HEUKELVOS_FREQUENCY_PER_PPM;
+	Clock c = heukelvos_set(adjusted(kind, 0, 0, frequency, 1000, 4, HEUKELVOS_TIME_OK), 5, 6).clock;
+	return c.seconds == 5 && c.micros == 6 && c.kind == kind && c.frequency == frequency && c.constant == 4 && c.offset == 0
+		&& c.adjustment == frequency / devices[kind].divisor + devices[kind].base;
+}
+
+/* The day of calls on one lent clock, of the kind that the replay uses. With `history` the events, else the lines. */
 static bool history;
 static Clock day;
 
@@ -457,7 +540,7 @@ static void set(uint64_t seconds, int64_t offset, int64_t frequency, uint64_t st
 
 static void day_of_calls(void)
 {
-	day = heukelvos_fresh();
+	day = fresh(HEUKELVOS_KIND_256);
 	set(1798750000, 90000, -5 * HEUKELVOS_FREQUENCY_PER_PPM, HEUKELVOS_TIME_INS);
 	for (int n = 0; n < 1000000; n++)
 		heukelvos_tick(&day);
@@ -484,6 +567,15 @@ static void check(const char *name, bool right)
 	failed += !right;
 }
 
+/* Whether a check finds nothing wrong with clocks of either kind. */
+static bool both(bool (*right)(int kind))
+{
+	for (int kind = 0; kind < KINDS; kind++)
+		if (!right(kind))
+			return printf("    of kind %d\n", kind), false;
+	return true;
+}
+
 int main(int argc, char **argv)
 {
 	if (argc == 2 && (strcmp(argv[1], "history") == 0 || strcmp(argv[1], "lines") == 0)) {
@@ -493,13 +585,16 @@ int main(int argc, char **argv)
 	}
 	if (argc != 1)
 		return fprintf(stderr, "usage: lent_clock [history | lines]\n"), 2;
-	check("the library's clock is the header's, field by field", layout());
-	check("a million ticks in place, and by value", million_ticks());
-	check("the rollovers since an offset: ticks in place, leaps, the limit, offsets and settings", intervals());
-	check("ticks that are refused", refused_ticks());
-	check("catch-ups at their edges: lent, by value, by single ticks", edges());
+	check("fresh clocks of every number", fresh_clocks());
+	check("the library's clock is the header's, field by field", both(layout));
+	check("a million ticks in place, and by value, through each leap", both(million_ticks));
+	check("how many ticks a second has", both(seconds_of_ticks));
+	check("the rollovers since an offset: ticks in place, leaps, the limit, offsets and settings", both(intervals));
+	check("ticks that are refused", both(refused_ticks));
+	check("catch-ups at their edges: lent, by value, by single ticks", both(edges));
 	check("200,000 catch-ups of random clocks: lent, by value, by single ticks", random_runs());
-	check("requests", requests());
-	check("settings, readings, labels", other_calls());
+	check("requests", both(requests));
+	check("settings", both(settings));
+	check("refused settings, readings, labels", both(other_calls));
 	return failed != 0;
 }

@@ -6,13 +6,13 @@ library=target/staticlib/libheukelvos.a
 
 # Every constant of the header, as 'NAME VALUE', without its prefix.
 of_header() {
-    sed -n -e 's/^#define HEUKELVOS_\([A-Z_]*\) (\{0,1\}\(-\{0,1\}[0-9]*\).*/\1 \2/p' \
-        -e 's/^	HEUKELVOS_\([A-Z_]*\) = \([0-9]*\).*/\1 \2/p' c/heukelvos.h
+    sed -n -e 's/^#define HEUKELVOS_\([A-Z0-9_]*\) (\{0,1\}\(-\{0,1\}[0-9]*\).*/\1 \2/p' \
+        -e 's/^	HEUKELVOS_\([A-Z0-9_]*\) = \([0-9]*\).*/\1 \2/p' c/heukelvos.h
 }
 
 # Every public constant of the crates that is written as a number, the same way.
 of_crates() {
-    cat crates/clock/src/*.rt crates/request/src/*.rt | sed -n 's/^pub const \([A-Z_]*\): [a-z0-9]* = \(-\{0,1\}[0-9]*\);$/\1 \2/p'
+    cat crates/clock/src/*.rt crates/request/src/*.rt | sed -n 's/^pub const \([A-Z0-9_]*\): [a-z0-9]* = \(-\{0,1\}[0-9]*\);$/\1 \2/p'
 }
 
 same_numbers() {

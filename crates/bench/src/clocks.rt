@@ -6,6 +6,7 @@ use crate::values::number_at;
 use clock::AskedMicros;
 use clock::CaughtUp;
 use clock::Clock;
+use clock::KIND_256;
 use clock::Outcome;
 use clock::catch_up;
 use clock::tick;
@@ -15,8 +16,8 @@ use request::AskedOffset;
 use request::Request;
 use request::adjust;
 
-pub(crate) fn ticks(values: &[u64; 64], count: u64) -> u64 {
-    let mut c = begun(values);
+pub(crate) fn ticks(values: &[u64; 64], kind: u8, count: u64) -> u64 {
+    let mut c = begun(values, kind);
     let mut sum: u64 = 0;
     let mut i: u64 = 0;
     while i < count {
@@ -35,8 +36,8 @@ fn mix_caught_up(sum: u64, r: CaughtUp) -> u64 {
 }
 
 // Calls of `ceiling` ticks each. Of a second and of many alike, since what is called at two places of a program is kept apart from both.
-pub(crate) fn catch_ups(values: &[u64; 64], ceiling: u64, count: u64) -> u64 {
-    let mut c = begun(values);
+pub(crate) fn catch_ups(values: &[u64; 64], kind: u8, ceiling: u64, count: u64) -> u64 {
+    let mut c = begun(values, kind);
     let mut sum: u64 = 0;
     let mut i: u64 = 0;
     while i < count {
@@ -85,7 +86,7 @@ pub(crate) struct Requested {
 }
 
 pub(crate) fn after_requests(values: &[u64; 64], count: u64) -> Requested {
-    let mut c = begun(values);
+    let mut c = begun(values, KIND_256);
     let mut sum: u64 = 0;
     let mut i: u64 = 0;
     while i < count {

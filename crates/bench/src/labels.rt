@@ -3,6 +3,7 @@ ghost use mathlib.Core.Path.{_≡_};
 ghost use lib.ListN.{length};
 use crate::sum::mix;
 use clock::Clock;
+use clock::KIND_256;
 use clock::fresh;
 
 // Some thirty days and a few hours: from one label's second to the next one's.
@@ -21,7 +22,7 @@ fn later(c: Clock) -> Clock {
 
 // Of each label two bytes are taken, at places that change with i and meet all twenty: so all must have been written.
 pub(crate) fn writes(count: u64) -> u64 {
-    let mut c = fresh();
+    let mut c = fresh(KIND_256).clock;
     let mut text = [0u8; 20];
     let mut sum: u64 = 0;
     let mut i: u64 = 0;
@@ -43,7 +44,7 @@ fn fill_labels(texts: &mut [u8])
     requires { ⌜ length (now texts) ≡ 1280 ⌝ }
     ensures { λ _. ⌜ length (now (texts .exit)) ≡ 1280 ⌝ }
 {
-    let mut c = fresh();
+    let mut c = fresh(KIND_256).clock;
     let mut i: usize = 0;
     while i < 64 {
         c = later(c);

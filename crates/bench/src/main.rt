@@ -9,6 +9,8 @@ mod values;
 
 ghost use Prim.Native.Nat.{_≤_};
 ghost use lib.ListN.{length};
+use clock::KIND_256;
+use clock::KIND_1024;
 use clock::MAX_CEILING;
 use libc::STDIN_FILENO;
 use libc::STDOUT_FILENO;
@@ -72,22 +74,40 @@ fn above_ascii(line: &[u8]) -> u8 {
     line[0] / 128
 }
 
-// How many ticks the calls of a word make: a second's, or the most that a catch-up may be asked for.
+// The kind of the device that a word of ticks is about: of both kinds they are called at one place, so that a kind is not known there.
+fn kind_of(line: &[u8]) -> u8 {
+    if starts_with(line, b"tick-1024 ")
+        | starts_with(line, b"second-1024 ")
+        | starts_with(line, b"catch-up-1024 ")
+    {
+        return KIND_1024;
+    }
+    KIND_256
+}
+
+// How many ticks the calls of a word make: a second's, or the most that a catch-up may be asked for; 0 if they make none.
 fn ceiling_of(line: &[u8]) -> u64 {
     if starts_with(line, b"second ") {
         return 256;
     }
-    MAX_CEILING
+    if starts_with(line, b"second-1024 ") {
+        return 1024;
+    }
+    if starts_with(line, b"catch-up ") | starts_with(line, b"catch-up-1024 ") {
+        return MAX_CEILING;
+    }
+    0
 }
 
 fn run(line: &[u8]) -> Answer {
     let count = count_of(line);
     let values = values::numbers(above_ascii(line));
-    if starts_with(line, b"tick ") {
-        return Answer::Checksum(clocks::ticks(&values, count));
+    let kind = kind_of(line);
+    if starts_with(line, b"tick ") | starts_with(line, b"tick-1024 ") {
+        return Answer::Checksum(clocks::ticks(&values, kind, count));
     }
-    if starts_with(line, b"second ") | starts_with(line, b"catch-up ") {
-        return Answer::Checksum(clocks::catch_ups(&values, ceiling_of(line), count));
+    if ceiling_of(line) != 0 {
+        return Answer::Checksum(clocks::catch_ups(&values, kind, ceiling_of(line), count));
     }
     if starts_with(line, b"request ") {
         return Answer::Checksum(clocks::requests(&values, count));

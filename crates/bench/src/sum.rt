@@ -31,7 +31,7 @@ fn mix_byte(sum: u64, b: u8) -> u64 {
 
 fn mix_state(sum: u64, c: Clock) -> u64 {
     let s = mix_micros(mix(sum, c.interval as u64), c.maxerror);
-    mix_byte(mix_micros(s, c.esterror), c.status)
+    mix_byte(mix_byte(mix_micros(s, c.esterror), c.status), c.kind)
 }
 
 // A whole clock more.

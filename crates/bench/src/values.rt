@@ -31,13 +31,14 @@ fn byte_at(values: &[u64; 64], i: u64) -> u8 {
     (number_at(values, i) % 64) as u8
 }
 
-// A clock with work to do: an offset of 1,000 us to pay off, a frequency, and time constant 2.
-pub(crate) fn begun(values: &[u64; 64]) -> Clock {
+// A clock of a kind with work to do: an offset of 1,000 us to pay off, a frequency, and time constant 2. Its adjustment lies in the ranges of
+// both kinds.
+pub(crate) fn begun(values: &[u64; 64], kind: u8) -> Clock {
     let micros = Micros(small(values, 0));
     let phase = PhaseUnits(small(values, 0) as i32);
     let offset = OffsetUnits((small(values, 10) * 1638400) as i32);
     let frequency = Frequency((small(values, 12) * 10288) as i32);
-    let adjustment = PhaseUnits((small(values, 40) * 1677721) as i32);
+    let adjustment = PhaseUnits((small(values, 40) * 3355443) as i32);
     let maxerror = Micros(small(values, 16) * 1000000);
     Clock {
         seconds: small(values, 43) * 2000,
@@ -52,5 +53,6 @@ pub(crate) fn begun(values: &[u64; 64]) -> Clock {
         maxerror: maxerror,
         esterror: maxerror,
         status: byte_at(values, 0),
+        kind: byte_at(values, kind as u64),
     }
 }

@@ -1,8 +1,9 @@
 // The calls by value: each is the call of its crate, for C.
 ghost use mathlib.Core.Path.{_≡_};
+ghost use Rattle.clock.specs.Fresh.{freshOf};
 ghost use Rattle.clock.specs.Reading.{readingOf};
 ghost use Rattle.clock.specs.Setting.{settingOf};
-ghost use Rattle.clock.specs.State.{freshClock, inRange};
+ghost use Rattle.clock.specs.State.{inRange};
 ghost use Rattle.clock.specs.Tick.{tickOf};
 ghost use Rattle.clock.specs.Units.{askedMicros};
 ghost use Rattle.clock.specs.Ticks.{catchUpOf};
@@ -16,10 +17,10 @@ use clock::Told;
 use request::Request;
 
 #[no_mangle]
-pub extern "C" fn heukelvos_fresh() -> Clock
-    ensures { λ r. ⌜ r ≡ freshClock ⌝ }
+pub extern "C" fn heukelvos_fresh(kind: u8) -> Outcome
+    ensures { λ r. ⌜ r ≡ freshOf kind ⌝ }
 {
-    clock::fresh()
+    clock::fresh(kind)
 }
 
 #[no_mangle]

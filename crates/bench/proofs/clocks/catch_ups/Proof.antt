@@ -5,10 +5,10 @@ use Rattle.bench.proofs.clocks.catch_ups.Statement.{statement}
 use Rattle.bench.proofs.clocks.catch_ups.Tie as tie
 
 abbrev Inv-loop : tie.InvT-loop
-Inv-loop values ceiling count c₀ sum₀ i₀ c sum i = i ≤ count
+Inv-loop values kind ceiling count c₀ sum₀ i₀ c sum i = i ≤ count
 
 abbrev μ-loop : tie.MeasureT-loop
-μ-loop values ceiling count c₀ sum₀ i₀ c sum i = count - i
+μ-loop values kind ceiling count c₀ sum₀ i₀ c sum i = count - i
 
 pub catch-ups-spec : {M : Type 1} → statement M
 catch-ups-spec =

@@ -5,10 +5,10 @@ use Rattle.bench.proofs.clocks.ticks.Statement.{statement}
 use Rattle.bench.proofs.clocks.ticks.Tie as tie
 
 abbrev Inv-loop : tie.InvT-loop
-Inv-loop values count c₀ sum₀ i₀ c sum i = i ≤ count
+Inv-loop values kind count c₀ sum₀ i₀ c sum i = i ≤ count
 
 abbrev μ-loop : tie.MeasureT-loop
-μ-loop values count c₀ sum₀ i₀ c sum i = count - i
+μ-loop values kind count c₀ sum₀ i₀ c sum i = count - i
 
 pub ticks-spec : {M : Type 1} → statement M
 ticks-spec =
