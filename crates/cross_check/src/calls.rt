@@ -1,7 +1,9 @@
 // One case of each kind of event on the clock, run by both implementations.
+use crate::devices::to_tick;
 use crate::first::same_event;
 use crate::first::same_start;
 use crate::first::same_ticks;
+use crate::form::ROW;
 use crate::many::event;
 use crate::many::ticks;
 use crate::random::catch_up_row;
@@ -9,7 +11,7 @@ use crate::random::draw;
 use crate::random::row;
 use crate::random::state;
 use crate::rules::State;
-use crate::rules::fresh;
+use crate::rules::begin;
 use crate::signed::minus;
 use crate::signed::pick;
 
@@ -20,7 +22,7 @@ pub(crate) struct Verdict {
 }
 
 // What both answer to an event.
-fn compared(s: State, row: &[u64; 13]) -> Verdict {
+fn compared(s: State, row: &[u64; ROW]) -> Verdict {
     let m = event(s, row);
     Verdict {
         refusal: pick(m.refusal == 0, m.tick_refusal, m.refusal),
@@ -33,18 +35,19 @@ pub(crate) fn event_on_any(case: u64, code: u64) -> Verdict {
     compared(state(case), &row(case, code))
 }
 
-// A catch-up, on a clock that need not be sound: once in four early in its second, some 256 ticks from the end.
+// A catch-up, on a clock that need not be sound: once in four early in its second, nearly all its ticks from the end.
 pub(crate) fn catch_up(case: u64) -> Verdict {
     let mut s = state(case);
     s.micros = pick(draw(case, 84) % 4 == 0, s.micros % 4096, s.micros);
     compared(s, &row(case, 4))
 }
 
-// A catch-up of as many ticks as may be, past every rollover: half of them from less than 300 seconds before the last.
+// A catch-up of as many ticks as may be, past every rollover: half of them from less than 300 seconds before the last, of kind 1 less than 75.
 pub(crate) fn long_catch_up(case: u64) -> Verdict {
     let mut s = state(case);
     let v = draw(case, 85);
-    s.seconds = pick(v % 2 == 0, minus(4294967295, v / 2 % 300), s.seconds);
+    let before = to_tick(s.kind, v / 2 % 76800);
+    s.seconds = pick(v % 2 == 0, minus(4294967295, before), s.seconds);
     compared(s, &catch_up_row(minus(65536, v / 1024 % 2), 0))
 }
 
@@ -60,10 +63,21 @@ fn some_code(case: u64) -> u64 {
     pick(v % 4096 < 96, other, 0)
 }
 
-// A list of 5,000 events from a fresh clock. Its refusal is the last one that an event gave.
+// What a caller begins with, for each byte that a kind could be.
+pub(crate) fn start(case: u64) -> Verdict {
+    let kind = case % 256;
+    let a = begin(kind);
+    Verdict {
+        refusal: a.refusal,
+        same: same_start(kind, a),
+    }
+}
+
+// A list of 5,000 events from a fresh clock, of one kind and the other in turn. Its refusal is the last one that an event gave.
 pub(crate) fn list(case: u64) -> Verdict {
-    let mut s = fresh();
-    let mut same = same_start(s);
+    let a = begin(case % 2);
+    let mut s = a.state;
+    let mut same = same_start(case % 2, a);
     let mut refusal: u64 = 0;
     let mut k: u64 = 0;
     while k < 5000 {
@@ -81,10 +95,11 @@ pub(crate) fn list(case: u64) -> Verdict {
     }
 }
 
-// Up to 700 ticks in one call, of a clock that need not be sound.
+// Up to 700 ticks in one call, half of the time up to 2,800, of a clock that need not be sound.
 pub(crate) fn many_ticks(case: u64) -> Verdict {
     let s = state(case);
-    let n = draw(case, 83) % 701;
+    let v = draw(case, 83);
+    let n = pick(v % 2 == 0, v / 2 % 2801, v / 2 % 701);
     let a = ticks(s, n);
     Verdict {
         refusal: a.refusal,

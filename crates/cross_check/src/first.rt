@@ -1,6 +1,12 @@
 // The first implementation's calls, each beside what the second answers. No other file names the first's crates.
 use crate::dates::Label;
+use crate::devices::adjustment_at;
+use crate::devices::end_of;
+use crate::devices::rate;
+use crate::devices::slew;
+use crate::devices::whole_micros;
 use crate::form::Number;
+use crate::form::ROW;
 use crate::many::Many;
 use crate::replay::Replayed;
 use crate::replay::caught_up;
@@ -16,6 +22,7 @@ use calendar::Found;
 use clock::AskedMicros;
 use clock::CaughtUp;
 use clock::Clock;
+use clock::Device;
 use clock::Frequency;
 use clock::Micros;
 use clock::OffsetUnits;
@@ -76,6 +83,7 @@ fn clock_of(s: State) -> Clock {
         maxerror: Micros(word(s.maximum)),
         esterror: Micros(word(s.estimated)),
         status: byte(s.status),
+        kind: byte(s.kind),
     }
 }
 
@@ -100,7 +108,8 @@ fn same_clock(s: State, c: Clock) -> bool {
     same = same & same_signed(s.adjustment, c.adjustment.0);
     same = same & same_byte(s.constant, c.constant) & same_byte(s.flag, c.updated);
     same = same & same_word(s.since, c.interval) & same_word(s.maximum, c.maxerror.0);
-    same & same_word(s.estimated, c.esterror.0) & same_byte(s.status, c.status)
+    same = same & same_word(s.estimated, c.esterror.0) & same_byte(s.status, c.status);
+    same & same_byte(s.kind, c.kind)
 }
 
 // A reading shows seconds, microseconds, status and both errors.
@@ -111,7 +120,7 @@ fn same_reading(s: State, r: Reading) -> bool {
 }
 
 // A request is a row: code, mode, then the fields in order of mode bit, offset and frequency mapped.
-fn request_of(row: &[u64; 13]) -> Request {
+fn request_of(row: &[u64; ROW]) -> Request {
     Request {
         mode: row[1],
         offset: AskedOffset(to_i64(row[2])),
@@ -124,7 +133,7 @@ fn request_of(row: &[u64; 13]) -> Request {
 }
 
 // The event of a row: code 0 a tick, 1 a setting, 2 a request, 3 a reading, 4 a catch-up.
-fn event_of(row: &[u64; 13]) -> Event {
+fn event_of(row: &[u64; ROW]) -> Event {
     let code = row[0];
     match code {
         0 => Event::Call(Call::Tick),
@@ -146,7 +155,7 @@ fn single(o: Outcome) -> CaughtUp {
 }
 
 // The event of a row by its own call.
-fn called(c: Clock, row: &[u64; 13]) -> CaughtUp {
+fn called(c: Clock, row: &[u64; ROW]) -> CaughtUp {
     let code = row[0];
     match code {
         0 => single(clock::tick(c)),
@@ -174,7 +183,7 @@ fn same_many(m: Many, r: CaughtUp) -> bool {
 }
 
 // An event by its own call and as a step of a list, where the second has answered `m`; and the clock that it meets.
-pub(crate) fn same_event(s: State, row: &[u64; 13], m: Many) -> bool {
+pub(crate) fn same_event(s: State, row: &[u64; ROW], m: Many) -> bool {
     let c = clock_of(s);
     let mut same = same_told(reading(s), c) & same_many(m, called(c, row));
     let e = event::step(c, event_of(row));
@@ -206,16 +215,35 @@ fn same_limits() -> bool {
     same & (u.second == 1000000) & (u.day == 86400)
 }
 
-// What a caller begins with: the fresh clock, the bits of a mode, and the timer's rate with the constants that follow from it.
-pub(crate) fn same_start(s: State) -> bool {
+// The bits of a mode.
+fn same_bits() -> bool {
     let m = request::mode_bits();
-    let d = clock::device_constants();
-    let mut same = same_limits() & same_clock(s, clock::fresh());
-    same = same & (m.offset == 1) & (m.frequency == 2) & (m.maxerror == 4);
-    same = same & (m.esterror == 8) & (m.status == 16) & (m.constant == 32);
-    same = same & (d.rate == 256) & (d.tick.0 == 3906) & (d.scale == 64) & (d.divisor == 16);
-    same = same & (d.base.0 == 67108864);
-    same & (d.least.0 == -168819712) & (d.most.0 == 303037440)
+    let same = (m.offset == 1) & (m.frequency == 2) & (m.maxerror == 4);
+    same & (m.esterror == 8) & (m.status == 16) & (m.constant == 32)
+}
+
+// A kind's constants. An adjustment grows by `scale` for each unit of the share, and by 1 for `divisor` units of the frequency.
+fn same_device(kind: u64, d: Device) -> bool {
+    let mut same = same_word(rate(kind), d.rate) & same_word(whole_micros(kind), d.tick.0);
+    same = same & same_word(slew(kind, 1), d.scale) & same_word(rate(kind) / 16, d.divisor);
+    same = same & same_signed(adjustment_at(kind, 0), d.base.0);
+    same & same_signed(end_of(kind, true), d.least.0) & same_signed(end_of(kind, false), d.most.0)
+}
+
+// The two kinds by their public names.
+fn same_kinds() -> bool {
+    let same = same_byte(0, clock::KIND_256) & same_device(0, clock::RECORDER_256);
+    same & same_byte(1, clock::KIND_1024) & same_device(1, clock::RECORDER_1024)
+}
+
+// What a caller begins with: the limits and names, the fresh clock of a number that need not be a kind, where the second has answered `a`,
+// and the constants of the kind that this clock has.
+pub(crate) fn same_start(kind: u64, a: Answer) -> bool {
+    let o = clock::fresh(byte(kind));
+    let d = clock::device_constants(byte(kind));
+    let mut same = same_limits() & same_bits() & same_kinds();
+    same = same & same_byte(a.refusal, o.refusal) & same_clock(a.state, o.clock);
+    same & same_byte(a.refusal, d.refusal) & same_device(a.state.kind, d.device)
 }
 
 // Up to n ticks in one call, where the second has answered `a`.
@@ -253,7 +281,7 @@ pub(crate) fn write_number(fill: u8, room: usize, at: usize, n: u64) -> Wrote {
     }
 }
 
-// The first `count` of thirteen numbers: y at the places 1, 4, 5 and 12, else x.
+// The first `count` numbers of a row: y at the places 1, 4, 5 and 13, else x.
 pub(crate) fn write_numbers(
     fill: u8,
     room: usize,
@@ -264,12 +292,12 @@ pub(crate) fn write_numbers(
 ) -> Wrote {
     let mut buf = [fill; 64];
     let b = word(y);
-    let mut words = [word(x); 13];
+    let mut words = [word(x); ROW];
     words[1] = b;
     words[4] = b;
     words[5] = b;
-    words[12] = b;
-    let w = number::write_all(&mut buf[..room % 65], at, &words[..count % 14]);
+    words[13] = b;
+    let w = number::write_all(&mut buf[..room % 65], at, &words[..count % 15]);
     Wrote {
         refusal: wide(w.refusal),
         next: w.next,

@@ -1,9 +1,12 @@
 // Document 01's number form, a second time: a number's end is found first, then its value is worked out from the last group to the first.
-// Rows of up to thirteen numbers, as records and events have them, are written and read by a mask: bit k says that number k is there.
+// Rows of numbers, as records and events have them, are written and read by a mask: bit k says that number k is there.
 use crate::signed::minus;
 use crate::signed::pick;
 use crate::signed::plus;
 use crate::signed::wide;
+
+// How many numbers a row has: as many as the longest record. An event has fewer.
+pub(crate) const ROW: usize = 14;
 
 pub(crate) struct Number {
     pub(crate) refusal: u64,
@@ -92,12 +95,12 @@ pub(crate) fn take(
     end: usize,
     from: Cursor,
     mask: u64,
-    row: &mut [u64; 13],
+    row: &mut [u64; ROW],
 ) -> Cursor {
     let mut c = from;
     let mut rest = mask;
     let mut k: usize = 0;
-    while k < 13 {
+    while k < ROW {
         let selected = pick(c.refusal == 0, rest % 2, 0);
         let n = number_if(selected, bytes, end, c.next, row[k]);
         row[k] = n.value;
@@ -131,11 +134,11 @@ fn put(bytes: &mut [u8; 64], at: usize, n: u64) -> usize {
 
 // Writes the numbers of the row that the mask names from `at` on, each modulo 2^35, as far as the bytes reach, and gives the place after
 // them.
-pub(crate) fn put_all(bytes: &mut [u8; 64], at: usize, row: &[u64; 13], mask: u64) -> usize {
+pub(crate) fn put_all(bytes: &mut [u8; 64], at: usize, row: &[u64; ROW], mask: u64) -> usize {
     let mut next = at;
     let mut rest = mask;
     let mut k: usize = 0;
-    while k < 13 {
+    while k < ROW {
         next = match rest % 2 {
             0 => next,
             _ => put(bytes, next, row[k] % 34359738368),
@@ -152,7 +155,7 @@ pub(crate) struct Draft {
     pub(crate) next: usize,
 }
 
-pub(crate) fn laid(row: &[u64; 13], mask: u64, at: usize, fill: u8) -> Draft {
+pub(crate) fn laid(row: &[u64; ROW], mask: u64, at: usize, fill: u8) -> Draft {
     let mut text = [fill; 64];
     let next = put_all(&mut text, at, row, mask);
     Draft {

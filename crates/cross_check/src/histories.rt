@@ -2,6 +2,7 @@
 use crate::calls::Verdict;
 use crate::first::same_begun;
 use crate::first::same_replay;
+use crate::form::ROW;
 use crate::form::put_all;
 use crate::random::Bytes;
 use crate::random::draw;
@@ -22,7 +23,7 @@ fn tick_count(case: u64) -> u64 {
 }
 
 // An event of a history. Small offsets and statuses alone are frequent: they lead a clock to its leap seconds.
-fn some_event(case: u64) -> [u64; 13] {
+fn some_event(case: u64) -> [u64; ROW] {
     let kind = draw(case, 601) % 8;
     let v = draw(case, 601) / 8;
     let mut row = match kind {
@@ -57,11 +58,11 @@ fn some_history(case: u64) -> Bytes {
     )
 }
 
-// The clock that a run begins with: mostly the fresh one.
+// The clock that a run begins with: mostly the fresh one of kind 0, which a replay begins with, else any of either kind.
 fn some_start(case: u64, v: u64) -> State {
     match v % 8 {
         0 => crate::random::state(case),
-        _ => fresh(),
+        _ => fresh(0),
     }
 }
 
@@ -96,7 +97,7 @@ pub(crate) fn long(case: u64) -> Verdict {
     let bytes = [4u8; 65537];
     let n = case % 2;
     let end = (65536 + n) as usize;
-    let from = begun(fresh(), end);
+    let from = begun(fresh(0), end);
     let room = (30 + case % 35) as usize;
     let same = same_begun(from) & same_replay(&bytes[..end], [4u8; 64], from, room);
     Verdict {

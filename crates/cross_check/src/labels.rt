@@ -75,9 +75,9 @@ pub(crate) fn read(case: u64) -> Verdict {
     read_both(text, pick(v % 16 == 0, 18 + v / 16 % 4, 20) as usize)
 }
 
-// A second of a day: its date, and its label written and read back.
+// A second of a day: its date, and its label written, of one kind of clock and the other in turn, and read back.
 pub(crate) fn day(case: u64) -> Verdict {
-    let mut s = crate::rules::fresh();
+    let mut s = crate::rules::fresh(case % 2);
     s.seconds = least(case % 49711 * 86400 + draw(case, 420) % 86400, 4294967295);
     s.status = 3;
     let w = written(s, 24, 0);

@@ -1,10 +1,11 @@
-// Runs a second implementation of document 01 beside the first, over pseudo-random and edge cases, and compares every answer to the last bit.
+// Runs a second implementation of documents 01 and 02 beside the first, over pseudo-random and edge cases, and compares every answer to the last bit.
 // One line for each group says how many cases were compared, how many differ, and how often the second implementation gave each answer:
 // 0 for accepted, else the number of the refusal, of the call or of the tick that ended a catch-up. The last line is the verdict: it ends in
 // `the two agree` where every group has cases and none of them differs; else it begins with `cross_check: DIFFER` and names the other groups,
 // with how many cases differ of how many.
 mod calls;
 mod dates;
+mod devices;
 mod first;
 mod form;
 mod histories;
@@ -26,10 +27,10 @@ use libc::STDOUT_FILENO;
 const TOLD: u64 = 5;
 
 // How many groups there are.
-const GROUPS: usize = 19;
+const GROUPS: usize = 21;
 
 // Their names, of sixteen bytes each, in the order of the lines.
-const NAMES: [u8; 304] = *b"ticks           \
+const NAMES: [u8; 336] = *b"ticks           \
 settings        \
 requests        \
 readings        \
@@ -37,6 +38,7 @@ catch-ups       \
 long catch-ups  \
 lists of events \
 many ticks      \
+kinds           \
 numbers read    \
 numbers written \
 numbers mapped  \
@@ -46,6 +48,7 @@ days            \
 records written \
 records read    \
 old records read\
+odd kinds read  \
 histories       \
 long histories  ";
 
@@ -58,18 +61,20 @@ fn cases_of(group: u64) -> u64 {
         3 => 10000,
         4 => 30000,
         5 => 200,
-        6 => 100,
+        6 => 200,
         7 => 10000,
-        8 => 100000,
-        9 => 50000,
-        10 => 10000,
-        11 => 30000,
-        12 => 120000,
-        13 => 49711,
-        14 => 50000,
-        15 => 100000,
-        16 => 50000,
-        17 => 20000,
+        8 => 256,
+        9 => 100000,
+        10 => 50000,
+        11 => 10000,
+        12 => 30000,
+        13 => 120000,
+        14 => 49711,
+        15 => 50000,
+        16 => 100000,
+        17 => 100000,
+        18 => 40000,
+        19 => 20000,
         _ => 8,
     }
 }
@@ -81,17 +86,19 @@ fn run_case(group: u64, case: u64) -> Verdict {
         5 => calls::long_catch_up(case),
         6 => calls::list(case),
         7 => calls::many_ticks(case),
-        8 => numbers::read(case),
-        9 => numbers::write(case),
-        10 => numbers::map(case),
-        11 => labels::write(case),
-        12 => labels::read(case),
-        13 => labels::day(case),
-        14 => records::write(case),
-        15 => records::read(case),
-        16 => records::read_old(case),
-        17 => histories::replay(case),
-        18 => histories::long(case),
+        8 => calls::start(case),
+        9 => numbers::read(case),
+        10 => numbers::write(case),
+        11 => numbers::map(case),
+        12 => labels::write(case),
+        13 => labels::read(case),
+        14 => labels::day(case),
+        15 => records::write(case),
+        16 => records::read(case),
+        17 => records::read_old(case),
+        18 => records::read_odd_kind(case),
+        19 => histories::replay(case),
+        20 => histories::long(case),
         _ => calls::event_on_any(case, group),
     }
 }
@@ -104,7 +111,7 @@ fn tell(text: [u8; 10], n: u64) {
 
 fn tell_name(group: u64) {
     let names = NAMES;
-    let at = (group % 19 * 16) as usize;
+    let at = (group % 21 * 16) as usize;
     io::write_all(STDOUT_FILENO, &names[at..at + 16]);
 }
 

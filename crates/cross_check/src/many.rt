@@ -1,4 +1,5 @@
 // Many ticks in one call, a second time: one tick after the other.
+use crate::form::ROW;
 use crate::rules::Answer;
 use crate::rules::State;
 use crate::rules::reading;
@@ -56,7 +57,7 @@ fn catch_up(s: State, ceiling: u64, stop: bool) -> Many {
 }
 
 // An event on a clock: code 4 a catch-up, with its ceiling and whether it stops, else a single call.
-pub(crate) fn event(s: State, row: &[u64; 13]) -> Many {
+pub(crate) fn event(s: State, row: &[u64; ROW]) -> Many {
     let code = row[0];
     if code == 4 {
         return catch_up(s, row[1], row[2] == 1);

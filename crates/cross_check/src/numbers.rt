@@ -6,6 +6,7 @@ use crate::first::same_number;
 use crate::first::write_number;
 use crate::first::write_numbers;
 use crate::form::Draft;
+use crate::form::ROW;
 use crate::form::laid;
 use crate::form::stands;
 use crate::random::draw;
@@ -77,24 +78,25 @@ fn mask_of(count: usize) -> u64 {
         10 => 1023,
         11 => 2047,
         12 => 4095,
-        _ => 8191,
+        13 => 8191,
+        _ => 16383,
     }
 }
 
-// Up to thirteen numbers, one after the other: two, repeated. A list of one is written by the writer of a single number.
+// Up to fourteen numbers, one after the other: two, repeated. A list of one is written by the writer of a single number.
 pub(crate) fn write(case: u64) -> Verdict {
     let a = some_number(case, 350);
     let b = some_number(case, 351);
     let v = draw(case, 343);
     let fill = (v % 256) as u8;
     let room = (v / 256 % 65) as usize;
-    let count = (v / 32768 % 14) as usize;
+    let count = (v / 32768 % 15) as usize;
     let at = some_place(case);
-    let mut row = [a; 13];
+    let mut row = [a; ROW];
     row[1] = b;
     row[4] = b;
     row[5] = b;
-    row[12] = b;
+    row[13] = b;
     let d = laid(&row, mask_of(count), at, fill);
     let refusal = pick((at <= room) & (d.next <= room), 0, 14);
     if count == 1 {

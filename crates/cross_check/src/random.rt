@@ -1,5 +1,9 @@
 // Pseudo-random and edge values. Every value follows from a case's number and a number for what is drawn, so that a case can be run again
 // by its number. Signed values are drawn as the numbers that they are mapped to, so that both ends of a range are met.
+use crate::devices::adjustment_at;
+use crate::devices::farthest;
+use crate::devices::whole_micros;
+use crate::form::ROW;
 use crate::rules::State;
 use crate::signed::minus;
 use crate::signed::pick;
@@ -48,13 +52,43 @@ pub(crate) fn second(case: u64, what: u64) -> u64 {
     }
 }
 
-// Any microsecond, or one from which a tick can roll over or just not.
-fn micros(case: u64) -> u64 {
+// A kind, 0 as often as 1; once in 32 a number that is none.
+fn kind(case: u64) -> u64 {
+    let v = draw(case, 30);
+    let n = v / 32;
+    let other = match n % 4 {
+        0 => 2,
+        1 => 3,
+        2 => 255,
+        _ => 2 + n / 4 % 254,
+    };
+    pick(v % 32 == 0, other, n % 2)
+}
+
+// Any microsecond, or one from which a tick of the kind can roll over or just not.
+fn micros(case: u64, kind: u64) -> u64 {
+    let from = minus(999994, whole_micros(kind));
     pick(
         draw(case, 4) % 2 == 0,
         near(case, 3, 999999, 4294967295),
-        996088 + draw(case, 5) % 12,
+        plus(from, draw(case, 5) % 12),
     )
+}
+
+// An adjustment in the range of a kind, often near its middle or one of its ends, once in 16 just outside or as far again.
+fn adjustment_near(case: u64, kind: u64) -> u64 {
+    let ends = plus(farthest(kind), farthest(kind));
+    adjustment_at(kind, near(case, 16, ends, plus(ends, ends)))
+}
+
+// Mostly one of the kind; once in 16 one of the other kind, and once in 32 any.
+fn adjustment(case: u64, kind: u64) -> u64 {
+    let v = draw(case, 19);
+    match v % 32 {
+        0 => v / 32 % 4294967296,
+        1 | 2 => adjustment_near(case, minus(1, kind)),
+        _ => adjustment_near(case, kind),
+    }
 }
 
 // What follows the flag of an earlier update, up to `limit`: anything up to it, often near its ends, once in 16 above it; where the flag is
@@ -73,14 +107,13 @@ pub(crate) fn since(case: u64, flag: u64, limit: u64) -> u64 {
 
 // A clock, about half of them sound.
 pub(crate) fn state(case: u64) -> State {
-    let mut s = crate::rules::fresh();
+    let mut s = crate::rules::fresh(kind(case));
     s.seconds = second(case, 1);
-    s.micros = micros(case);
+    s.micros = micros(case, s.kind);
     s.phase = near(case, 7, 536870910, 4294967295);
     s.left = near(case, 10, 4194271232, 4294967295);
     s.frequency = near(case, 13, 3355443200, 4294967295);
-    let limit = pick(draw(case, 19) % 2 == 0, 337639423, 606074880);
-    s.adjustment = near(case, 16, limit, 4294967295);
+    s.adjustment = adjustment(case, s.kind);
     s.constant = near(case, 20, 4, 255);
     s.flag = near(case, 21, 1, 255);
     s.since = since(case, s.flag, 1024);
@@ -101,8 +134,8 @@ fn argument(case: u64, what: u64, limit: u64) -> u64 {
 }
 
 // A row that begins with three numbers; the others are 0.
-pub(crate) fn short_row(a: u64, b: u64, c: u64) -> [u64; 13] {
-    let mut row = [0u64; 13];
+pub(crate) fn short_row(a: u64, b: u64, c: u64) -> [u64; ROW] {
+    let mut row = [0u64; ROW];
     row[0] = a;
     row[1] = b;
     row[2] = c;
@@ -110,7 +143,7 @@ pub(crate) fn short_row(a: u64, b: u64, c: u64) -> [u64; 13] {
 }
 
 // A request: its mode, then the fields in order of mode bit, offset and frequency mapped.
-fn request_row(case: u64) -> [u64; 13] {
+fn request_row(case: u64) -> [u64; ROW] {
     let mut row = short_row(2, argument(case, 41, 63), argument(case, 44, 255998));
     row[3] = argument(case, 47, 3355443198);
     row[4] = argument(case, 49, 16000000);
@@ -121,37 +154,39 @@ fn request_row(case: u64) -> [u64; 13] {
 }
 
 // A setting: its seconds are once in 16 too large by 2^32.
-fn setting_row(case: u64) -> [u64; 13] {
+fn setting_row(case: u64) -> [u64; ROW] {
     let above = pick(draw(case, 73) % 16 == 0, 4294967296, 0);
     short_row(1, plus(second(case, 70), above), argument(case, 76, 999999))
 }
 
 // A catch-up: its ceiling, and 1 where it stops after the tick that rolls the second over.
-pub(crate) fn catch_up_row(ceiling: u64, stop: u64) -> [u64; 13] {
+pub(crate) fn catch_up_row(ceiling: u64, stop: u64) -> [u64; ROW] {
     short_row(4, ceiling, stop)
 }
 
-// 0 to 2, about a second of ticks, about the greatest ceiling, above it, or up to 700.
+// 0 to 2, about a second of ticks of either kind, about the greatest ceiling, above it, or up to some 2.7 seconds of either kind.
 fn ceiling(case: u64) -> u64 {
     let v = draw(case, 86);
     match draw(case, 87) % 16 {
         0 | 1 => v % 3,
-        2 | 3 | 4 => 255 + v % 4,
-        5 => 65535 + v % 3,
-        6 => pick(v % 2 == 0, 18446744073709551615, plus(65537, v / 2)),
+        2 | 3 => 255 + v % 4,
+        4 | 5 => 1023 + v % 4,
+        6 => 65535 + v % 3,
+        7 => pick(v % 2 == 0, 18446744073709551615, plus(65537, v / 2)),
+        8 | 9 => v % 2801,
         _ => v % 701,
     }
 }
 
-// Of the ceilings that are not refused those above 700 stop, since the second implementation makes their ticks one by one.
-fn some_catch_up_row(case: u64) -> [u64; 13] {
+// Of the ceilings that are not refused those above 2,800 stop, since the second implementation makes their ticks one by one.
+fn some_catch_up_row(case: u64) -> [u64; ROW] {
     let n = ceiling(case);
-    let many = (700 < n) & (n <= 65536);
+    let many = (2800 < n) & (n <= 65536);
     catch_up_row(n, pick(many, 1, draw(case, 88) % 2))
 }
 
 // An event of the code: its numbers as they stand in a history, which has no catch-ups.
-pub(crate) fn row(case: u64, code: u64) -> [u64; 13] {
+pub(crate) fn row(case: u64, code: u64) -> [u64; ROW] {
     match code {
         1 => setting_row(case),
         2 => request_row(case),

@@ -3,6 +3,7 @@ use crate::dates::PRINT;
 use crate::dates::clock_stamp;
 use crate::dates::filled;
 use crate::form::Cursor;
+use crate::form::ROW;
 use crate::form::cursor_at;
 use crate::form::take;
 use crate::many::ticks;
@@ -15,7 +16,7 @@ use crate::signed::pick;
 const MOST: u64 = 20000;
 
 // The numbers of an event that stand in a history: code, arguments, for a request the mode and the fields that it selects.
-pub(crate) fn mask_of(row: &[u64; 13]) -> u64 {
+pub(crate) fn mask_of(row: &[u64; ROW]) -> u64 {
     let code = row[0];
     match code {
         0 => 3,
@@ -26,7 +27,7 @@ pub(crate) fn mask_of(row: &[u64; 13]) -> u64 {
 }
 
 // The event at `at`, its numbers put into the row.
-fn event_at(bytes: &[u8; 64], end: usize, at: usize, row: &mut [u64; 13]) -> Cursor {
+fn event_at(bytes: &[u8; 64], end: usize, at: usize, row: &mut [u64; ROW]) -> Cursor {
     let mut c = take(bytes, end, cursor_at(at), 1, row);
     let code = row[0];
     c.refusal = pick((c.refusal == 0) & (3 < code), 12, c.refusal);
@@ -34,7 +35,7 @@ fn event_at(bytes: &[u8; 64], end: usize, at: usize, row: &mut [u64; 13]) -> Cur
     take(bytes, end, c, mask_of(row) / 4 * 4, row)
 }
 
-fn answer_of(s: State, row: &[u64; 13]) -> Answer {
+fn answer_of(s: State, row: &[u64; ROW]) -> Answer {
     let code = row[0];
     match code {
         0 => ticks(s, row[1]),
@@ -147,7 +148,7 @@ fn put_answer(out: &mut [u8; 2048], at: usize, a: Answer, code: u64) -> usize {
 }
 
 // A run after an event, the next one at `place`.
-fn went_on(r: Replayed, place: usize, row: &[u64; 13], out: &mut [u8; 2048]) -> Replayed {
+fn went_on(r: Replayed, place: usize, row: &[u64; ROW], out: &mut [u8; 2048]) -> Replayed {
     let a = answer_of(r.state, row);
     let mut next = r;
     next.size = put_answer(out, r.size, a, row[0]);
@@ -167,7 +168,7 @@ fn cut(r: Replayed) -> Replayed {
 
 // A run after its next event, or after its end. One of too many ticks is where the history is cut; of more than 65,536 bytes none is run.
 fn advanced(r: Replayed, bytes: &[u8; 64], out: &mut [u8; 2048]) -> Replayed {
-    let mut row = [0u64; 13];
+    let mut row = [0u64; ROW];
     let at = r.place;
     let c = event_at(bytes, r.end, at, &mut row);
     let long = (row[0] == 0) & (MOST < row[1]);

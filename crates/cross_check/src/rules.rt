@@ -1,5 +1,12 @@
 // The state and events of documents 01 and 02, a second time: ticks, rollovers, settings and requests, by sign and size. Signed fields are
 // held as the numbers that they are mapped to.
+use crate::devices::PHASE_MICRO;
+use crate::devices::adjustment_at;
+use crate::devices::adjustment_of;
+use crate::devices::known;
+use crate::devices::reached;
+use crate::devices::whole_micros;
+use crate::form::ROW;
 use crate::signed::Signed;
 use crate::signed::halved;
 use crate::signed::least;
@@ -10,7 +17,8 @@ use crate::signed::plus;
 use crate::signed::sum;
 use crate::signed::unmapped;
 
-// The table of document 01, in its order; `since` is document 02's number of rollovers since the last offset, in place of its second.
+// The table of document 01, in its order; `since` is document 02's number of rollovers since the last offset, in place of its second. Behind
+// it document 02's kind of device.
 pub(crate) struct State {
     pub(crate) seconds: u64,
     pub(crate) micros: u64,
@@ -24,6 +32,7 @@ pub(crate) struct State {
     pub(crate) maximum: u64,
     pub(crate) estimated: u64,
     pub(crate) status: u64,
+    pub(crate) kind: u64,
 }
 
 pub(crate) struct Answer {
@@ -31,27 +40,47 @@ pub(crate) struct Answer {
     pub(crate) state: State,
 }
 
-pub(crate) fn fresh() -> State {
+// The fresh clock of a kind.
+pub(crate) fn fresh(kind: u64) -> State {
     State {
         seconds: 0,
         micros: 0,
         phase: 0,
         left: 0,
         frequency: 0,
-        adjustment: 134217728,
+        adjustment: adjustment_at(kind, 0),
         constant: 0,
         flag: 0,
         since: 0,
         maximum: 16000000,
         estimated: 16000000,
         status: 4,
+        kind: kind,
     }
 }
 
-// The numbers of a state's record, which is of version 2.
-pub(crate) fn row_of(s: State) -> [u64; 13] {
+// The fresh clock of a number that need not be a kind.
+pub(crate) fn begin(kind: u64) -> Answer {
+    match pick(known(kind), 0, 1) {
+        0 => Answer {
+            refusal: 0,
+            state: fresh(kind),
+        },
+        _ => Answer {
+            refusal: 1,
+            state: fresh(0),
+        },
+    }
+}
+
+// The version of the records that are written; those before it are still read.
+const WRITTEN: u64 = 3;
+
+// The numbers of a state's record.
+pub(crate) fn row_of(s: State) -> [u64; ROW] {
     [
-        2,
+        WRITTEN,
+        s.kind,
         s.seconds,
         s.micros,
         s.phase,
@@ -68,45 +97,52 @@ pub(crate) fn row_of(s: State) -> [u64; 13] {
 }
 
 // The state of a record's numbers. One of version 1 has no earlier update, whatever it says of one.
-pub(crate) fn state_of(row: &[u64; 13]) -> State {
+pub(crate) fn state_of(row: &[u64; ROW]) -> State {
     State {
-        seconds: row[1],
-        micros: row[2],
-        phase: row[3],
-        left: row[4],
-        frequency: row[5],
-        adjustment: row[6],
-        constant: row[7],
-        flag: pick(row[0] == 1, 0, row[8]),
-        since: pick(row[0] == 1, 0, row[9]),
-        maximum: row[10],
-        estimated: row[11],
-        status: row[12],
+        seconds: row[2],
+        micros: row[3],
+        phase: row[4],
+        left: row[5],
+        frequency: row[6],
+        adjustment: row[7],
+        constant: row[8],
+        flag: pick(row[0] == 1, 0, row[9]),
+        since: pick(row[0] == 1, 0, row[10]),
+        maximum: row[11],
+        estimated: row[12],
+        status: row[13],
+        kind: row[1],
     }
 }
 
-// The largest number at place k of a record. A field from -m to m is mapped to 0 to 2m. At place 9 version 1 has a second, version 2 a count.
-fn most_at(row: &[u64; 13], k: usize) -> u64 {
+// The numbers that a record of a version has, as a mask: all, but for the kind, which versions 1 and 2 lack.
+pub(crate) fn record_mask(version: u64) -> u64 {
+    pick(version < 3, 16381, 16383)
+}
+
+// The largest number at place k of a record. A field from -m to m is mapped to 0 to 2m; the adjustment's range, at place 7, is not of that
+// form. At place 10 version 1 has a second, the later ones a count.
+fn most_at(row: &[u64; ROW], k: usize) -> u64 {
     match k {
-        0 => 2,
-        1 => 4294967295,
-        2 => 999999,
-        3 => 536870910,
-        4 => 4194271232,
-        5 => 3355443200,
-        6 => pick(row[6] % 2 == 1, 337639423, 606074880),
-        9 => pick(row[8] == 0, 0, pick(row[0] == 1, 4294967295, 1024)),
-        10 | 11 => 16000000,
-        7 | 12 => 4,
+        0 => WRITTEN,
+        2 | 7 => 4294967295,
+        3 => 999999,
+        4 => 536870910,
+        5 => 4194271232,
+        6 => 3355443200,
+        10 => pick(row[9] == 0, 0, pick(row[0] == 1, 4294967295, 1024)),
+        11 | 12 => 16000000,
+        8 | 13 => 4,
         _ => 1,
     }
 }
 
-// Whether the first `count` numbers of a record are in range, the version 1 or 2.
-pub(crate) fn fits(row: &[u64; 13], count: u64) -> bool {
+// Whether the first `count` numbers of a record are in range: the version from 1 on, the adjustment as the record's kind has it.
+pub(crate) fn fits(row: &[u64; ROW], count: u64) -> bool {
     let mut ok = (count == 0) | (0 < row[0]);
+    ok = ok & ((count < 8) | reached(row[1], row[7]));
     let mut k: usize = 0;
-    while k < 13 {
+    while k < ROW {
         ok = ok & ((count <= k as u64) | (row[k] <= most_at(row, k)));
         k += 1;
     }
@@ -115,22 +151,7 @@ pub(crate) fn fits(row: &[u64; 13], count: u64) -> bool {
 
 pub(crate) fn sound(s: State) -> bool {
     let row = row_of(s);
-    fits(&row, 13)
-}
-
-// 64 x share + frequency / 16 + 67,108,864.
-fn adjustment_of(negative: bool, share: u64, frequency: u64) -> u64 {
-    let slew = Signed {
-        negative: negative,
-        size: share % 4294967296 * 64,
-    };
-    let f = unmapped(frequency);
-    let drift = Signed {
-        negative: f.negative,
-        size: f.size / 16,
-    };
-    let adjustment = sum(sum(slew, drift), unmapped(134217728));
-    mapped(adjustment.negative, adjustment.size)
+    fits(&row, ROW as u64)
 }
 
 // The second that a rollover has reached, with its leap step, in `seconds` and `status`.
@@ -153,18 +174,18 @@ fn rolled(s: State) -> State {
     t.maximum = least(plus(s.maximum, 100), 16000000);
     t.since = least(plus(s.since, s.flag), 1024);
     t.left = mapped(left.negative, minus(left.size, share));
-    t.adjustment = adjustment_of(left.negative, share, s.frequency);
+    t.adjustment = adjustment_of(s.kind, left.negative, share, s.frequency);
     leapt(t)
 }
 
 // One tick of a sound clock.
 pub(crate) fn tick(s: State) -> Answer {
     let moved = sum(unmapped(s.phase), unmapped(s.adjustment));
-    let whole = moved.size / 268435456;
-    let grown = plus(s.micros, 3906);
+    let whole = moved.size / PHASE_MICRO;
+    let grown = plus(s.micros, whole_micros(s.kind));
     let mut t = s;
     t.micros = pick(moved.negative, minus(grown, whole), plus(grown, whole));
-    t.phase = mapped(moved.negative, moved.size % 268435456);
+    t.phase = mapped(moved.negative, moved.size % PHASE_MICRO);
     match pick(t.micros < 1000000, 0, pick(s.seconds == 4294967295, 1, 2)) {
         0 => Answer {
             refusal: 0,
@@ -182,12 +203,12 @@ pub(crate) fn tick(s: State) -> Answer {
 }
 
 fn set(s: State, seconds: u64, micros: u64) -> Answer {
-    let mut t = fresh();
+    let mut t = fresh(s.kind);
     t.seconds = seconds;
     t.micros = micros;
     t.frequency = s.frequency;
     t.constant = s.constant;
-    t.adjustment = adjustment_of(false, 0, s.frequency);
+    t.adjustment = adjustment_of(s.kind, false, 0, s.frequency);
     match pick((4294967295 < seconds) | (999999 < micros), 2, 0) {
         0 => Answer {
             refusal: 0,
@@ -201,12 +222,12 @@ fn set(s: State, seconds: u64, micros: u64) -> Answer {
 }
 
 // The request's number at `k` where its mode has the bit, else the old one.
-fn chosen(row: &[u64; 13], k: usize, bit: u64, old: u64) -> u64 {
-    pick((row[1] & bit) == 0, old, row[k % 13])
+fn chosen(row: &[u64; ROW], k: usize, bit: u64, old: u64) -> u64 {
+    pick((row[1] & bit) == 0, old, row[k % ROW])
 }
 
 // The lowest of 4 to 9 that applies, or 0. A request is a row: code, mode, then the fields in order of mode bit.
-fn judged(row: &[u64; 13]) -> u64 {
+fn judged(row: &[u64; ROW]) -> u64 {
     let mut refusal = pick(4 < chosen(row, 7, 32, 0), 9, 0);
     refusal = pick(4 < chosen(row, 6, 16, 0), 8, refusal);
     refusal = pick(16000000 < chosen(row, 5, 8, 0), 7, refusal);
@@ -217,7 +238,7 @@ fn judged(row: &[u64; 13]) -> u64 {
 }
 
 // Frequency, errors, status and time constant.
-fn plain_effects(s: State, row: &[u64; 13]) -> State {
+fn plain_effects(s: State, row: &[u64; ROW]) -> State {
     let status = chosen(row, 6, 16, s.status);
     let mut t = s;
     t.frequency = chosen(row, 3, 2, s.frequency);
@@ -254,7 +275,7 @@ fn offset_effects(s: State, n: u64, writes_bad: bool) -> State {
     t
 }
 
-fn adjust(s: State, row: &[u64; 13]) -> Answer {
+fn adjust(s: State, row: &[u64; ROW]) -> Answer {
     let refusal = judged(row);
     let t = plain_effects(s, row);
     match pick(refusal == 0, row[1] % 2, 2) {
@@ -282,7 +303,7 @@ pub(crate) fn reading(s: State) -> Answer {
 }
 
 // An event on a clock: code 0 one tick, 1 a setting, 2 a request, 3 a reading.
-pub(crate) fn step(s: State, row: &[u64; 13]) -> Answer {
+pub(crate) fn step(s: State, row: &[u64; ROW]) -> Answer {
     let told = reading(s);
     match pick(told.refusal == 0, row[0], 3) {
         0 => tick(s),
@@ -297,7 +318,7 @@ pub(crate) fn shown(refusal: u64, s: State, code: u64) -> State {
     if (code == 3) & (refusal == 0) {
         return s;
     }
-    let mut none = fresh();
+    let mut none = fresh(0);
     none.maximum = 0;
     none.estimated = 0;
     none

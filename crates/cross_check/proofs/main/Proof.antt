@@ -5,10 +5,10 @@ use Rattle.cross_check.proofs.main.Statement.{statement}
 use Rattle.cross_check.proofs.main.Tie as tie
 
 abbrev Inv-loop : tie.InvT-loop
-Inv-loop compared₀ differ₀ k₀ compared differ k = k ≤ 19
+Inv-loop compared₀ differ₀ k₀ compared differ k = k ≤ 21
 
 abbrev μ-loop : tie.MeasureT-loop
-μ-loop compared₀ differ₀ k₀ compared differ k = 19 - k
+μ-loop compared₀ differ₀ k₀ compared differ k = 21 - k
 
 tell-head-requires : tie.Need-tell-head-requires Inv-loop μ-loop
 tell-head-requires c κs = search needs

@@ -5,10 +5,10 @@ use Rattle.cross_check.proofs.tell_verdict.Statement.{statement}
 use Rattle.cross_check.proofs.tell_verdict.Tie as tie
 
 abbrev Inv-loop : tie.InvT-loop
-Inv-loop compared differ cases₀ agreeing₀ k₀ cases agreeing k = k ≤ 19
+Inv-loop compared differ cases₀ agreeing₀ k₀ cases agreeing k = k ≤ 21
 
 abbrev μ-loop : tie.MeasureT-loop
-μ-loop compared differ cases₀ agreeing₀ k₀ cases agreeing k = 19 - k
+μ-loop compared differ cases₀ agreeing₀ k₀ cases agreeing k = 21 - k
 
 loop-holds : tie.Need-loop-holds Inv-loop μ-loop
 loop-holds c = search needs

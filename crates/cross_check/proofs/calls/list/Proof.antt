@@ -10,8 +10,8 @@ Inv-loop case s₀ same₀ refusal₀ k₀ s same refusal k = k ≤ 5000
 abbrev μ-loop : tie.MeasureT-loop
 μ-loop case s₀ same₀ refusal₀ k₀ s same refusal k = 5000 - k
 
-fresh-requires : tie.Need-fresh-requires Inv-loop μ-loop
-fresh-requires c κs = search needs
+begin-requires : tie.Need-begin-requires Inv-loop μ-loop
+begin-requires c κs = search needs
 
 same-start-requires : tie.Need-same-start-requires Inv-loop μ-loop
 same-start-requires c κs = search needs
@@ -58,7 +58,7 @@ list-spec =
     (tie.spec
     Inv-loop
     μ-loop
-    fresh-requires
+    begin-requires
     same-start-requires
     loop-holds
     mul-c

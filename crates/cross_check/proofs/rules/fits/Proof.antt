@@ -5,13 +5,22 @@ use Rattle.cross_check.proofs.rules.fits.Statement.{statement}
 use Rattle.cross_check.proofs.rules.fits.Tie as tie
 
 abbrev Inv-loop : tie.InvT-loop
-Inv-loop row count ok₀ k₀ ok k = k ≤ 13
+Inv-loop row count ok₀ k₀ ok k = k ≤ 14
 
 abbrev μ-loop : tie.MeasureT-loop
-μ-loop row count ok₀ k₀ ok k = 13 - k
+μ-loop row count ok₀ k₀ ok k = 14 - k
 
 element-copy-out-ok : tie.Need-element-copy-out-ok Inv-loop μ-loop
 element-copy-out-ok c = search needs
+
+element-copy-out-reached : tie.Need-element-copy-out-reached Inv-loop μ-loop
+element-copy-out-reached c = search needs
+
+element-copy-out-reached-2 : tie.Need-element-copy-out-reached-2 Inv-loop μ-loop
+element-copy-out-reached-2 c = search needs
+
+reached-requires : tie.Need-reached-requires Inv-loop μ-loop
+reached-requires c κs = search needs
 
 loop-holds : tie.Need-loop-holds Inv-loop μ-loop
 loop-holds c = search needs
@@ -44,6 +53,9 @@ fits-spec =
     Inv-loop
     μ-loop
     element-copy-out-ok
+    element-copy-out-reached
+    element-copy-out-reached-2
+    reached-requires
     loop-holds
     mul-ok
     element-copy-out-ok-2
