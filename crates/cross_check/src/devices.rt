@@ -3,7 +3,6 @@
 ghost use Prim.Native.Nat.{_<_};
 use crate::signed::Signed;
 use crate::signed::mapped;
-use crate::signed::pick;
 use crate::signed::plus;
 use crate::signed::sum;
 use crate::signed::unmapped;

@@ -208,6 +208,7 @@ fn tell_difference(group: u64, compared: u64, differ: u64) {
     }
     io::write_all(STDOUT_FILENO, b"; ");
     tell_name(group);
+    io::write_all(STDOUT_FILENO, b" ");
     io::print_decimal(STDOUT_FILENO, differ);
     io::write_all(STDOUT_FILENO, b" of ");
     io::print_decimal(STDOUT_FILENO, compared);

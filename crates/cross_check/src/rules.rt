@@ -115,9 +115,14 @@ pub(crate) fn state_of(row: &[u64; ROW]) -> State {
     }
 }
 
-// The numbers that a record of a version has, as a mask: all, but for the kind, which versions 1 and 2 lack.
+// All numbers of a record as a mask, and all but the kind, at place 1.
+const WHOLE: u64 = 0x3fff;
+
+const WITHOUT_KIND: u64 = WHOLE - 2;
+
+// The numbers that a record of a version has: the kind is there from version 3 on.
 pub(crate) fn record_mask(version: u64) -> u64 {
-    pick(version < 3, 16381, 16383)
+    pick(version < 3, WITHOUT_KIND, WHOLE)
 }
 
 // The largest number at place k of a record. A field from -m to m is mapped to 0 to 2m; the adjustment's range, at place 7, is not of that
