@@ -18,11 +18,10 @@ use Rattle.clock.specs.declared.timer.Advance.{Advance}
 use Rattle.clock.specs.declared.run.CaughtUp.{CaughtUp}
 use Rattle.clock.specs.declared.run.Turn.{Turn}
 
--- the ranges of the kind and of the fields up to the frequency, and of the others
+-- the ranges of the fields up to the frequency; of those behind the adjustment; and of the kind, with the adjustment by it
 abbrev pub firstFieldsRange : Clock → Bool
 firstFieldsRange c =
-    kindRange (c .kind)
-    && secondRange (c .seconds)
+    secondRange (c .seconds)
     && microsRange (c .micros .0)
     && phaseRange (c .phase .0)
     && offsetRange (c .offset .0)
@@ -30,12 +29,14 @@ firstFieldsRange c =
 
 abbrev pub lastFieldsRange : Clock → Bool
 lastFieldsRange c =
-    adjustmentRange (deviceOf (c .kind)) (c .adjustment .0)
-    && constantRange (c .constant)
+    constantRange (c .constant)
     && (flagRange (c .updated) && intervalRange (c .interval) && zeroUnlessFlag (c .updated) (c .interval))
     && errorRange (c .maxerror .0)
     && errorRange (c .esterror .0)
     && statusRange (c .status)
+
+abbrev pub adjustmentOfKind : ℕ → ℤ → Bool
+adjustmentOfKind kind z = kindRange kind && adjustmentRange (deviceOf kind) z
 
 -- the size of the greatest share, of the greatest offset at time constant 0 (offset units)
 abbrev pub greatestShare : ℕ

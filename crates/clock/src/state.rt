@@ -1,9 +1,11 @@
 ghost use mathlib.Core.Path.{_≡_};
 ghost use Rattle.clock.specs.Fresh.{freshOf};
 ghost use Rattle.clock.specs.State.{inRange, freshClock};
-ghost use Rattle.clock.specs.Inner.{firstFieldsRange, lastFieldsRange};
+ghost use Rattle.clock.specs.Inner.{firstFieldsRange, lastFieldsRange, adjustmentOfKind};
 use crate::device::KIND_256;
 use crate::device::KIND_1024;
+use crate::device::RECORDER_256;
+use crate::device::RECORDER_1024;
 use crate::device::device_of;
 use crate::limits::LAST_MICRO;
 use crate::limits::LAST_SECOND;
@@ -55,28 +57,37 @@ pub struct Clock {
 fn first_fields_in_range(c: Clock) -> bool
     ensures { λ r. ⌜ r ≡ firstFieldsRange c ⌝ }
 {
-    (c.kind <= KIND_1024)
-        & (c.seconds <= LAST_SECOND)
+    (c.seconds <= LAST_SECOND)
         & (c.micros.0 <= LAST_MICRO)
         & ((PHASE_LOWER_END < c.phase.0) & (c.phase.0 < PHASE_UPPER_END))
         & ((MIN_OFFSET <= c.offset.0) & (c.offset.0 <= MAX_OFFSET))
         & ((MIN_FREQUENCY <= c.frequency.0) & (c.frequency.0 <= MAX_FREQUENCY))
 }
 
-// The others. How far the interval may go follows from the flag, 0 or MAX_INTERVAL: one test in place of two, which every call makes.
+// The others, but for the adjustment. How far the interval may go follows from the flag, 0 or MAX_INTERVAL: one test in place of two, which
+// every call makes.
 fn last_fields_in_range(c: Clock) -> bool
     ensures { λ r. ⌜ r ≡ lastFieldsRange c ⌝ }
 {
-    let device = device_of(c.kind);
-    ((device.least.0 <= c.adjustment.0) & (c.adjustment.0 <= device.most.0))
-        & (c.constant <= MAX_CONSTANT)
+    (c.constant <= MAX_CONSTANT)
         & ((c.updated <= 1) & (c.interval <= c.updated as u32 * MAX_INTERVAL))
         & (c.maxerror.0 <= MAX_ERROR)
         & (c.esterror.0 <= MAX_ERROR)
         & (c.status <= TIME_BAD)
 }
 
-// Whether each field lies in its range. In two parts, since tested all at once the compiled code reads fields in pairs: a pair of which a tick
+// The kind, and the adjustment by it. A branch on the kind, and its own ends as constants, take fewer instructions than ends that are chosen.
+fn adjustment_in_range(kind: u8, a: PhaseUnits) -> bool
+    ensures { λ r. ⌜ r ≡ adjustmentOfKind kind (a .0) ⌝ }
+{
+    match kind {
+        KIND_256 => (RECORDER_256.least.0 <= a.0) & (a.0 <= RECORDER_256.most.0),
+        KIND_1024 => (RECORDER_1024.least.0 <= a.0) & (a.0 <= RECORDER_1024.most.0),
+        _ => false,
+    }
+}
+
+// Whether each field lies in its range. In parts, since tested all at once the compiled code reads fields in pairs: a pair of which a tick
 // in place has just stored one waits for that store, and a tick then takes twice the time.
 pub fn in_range(c: Clock) -> bool
     ensures { λ r. ⌜ r ≡ inRange c ⌝ }
@@ -84,7 +95,10 @@ pub fn in_range(c: Clock) -> bool
     if !first_fields_in_range(c) {
         return false;
     }
-    last_fields_in_range(c)
+    if !last_fields_in_range(c) {
+        return false;
+    }
+    adjustment_in_range(c.kind, c.adjustment)
 }
 
 // The clock of a kind before anything has happened to it, which counts as set to 0 s. Of a number that is no kind: refusal 1, and the

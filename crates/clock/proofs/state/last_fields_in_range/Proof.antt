@@ -7,28 +7,15 @@ use mathlib.Core.Bool.{and-true as and-one}
 use Prim.Native.Nat.{ℕ, zero, suc, _*_}
 use native.Mathlib.Omega.{arith}
 use lib.Dec.{leb, eqb}
-use mir.Facts.{toZ-ofZ}
-use mir.Syntax.{w32}
-use mir.Val.{SFits, toZ, ofZ}
 use Rattle.integers.proofs.Ranges.{zero-only}
-use Rattle.clock.proofs.DeviceLaws.{fits-least, fits-most}
 use Rattle.clock.proofs.state.last_fields_in_range.Statement.{statement}
 use Rattle.clock.proofs.state.last_fields_in_range.Tie as tie
-
-adjustment-fits : (s : tie.Start) → SFits w32 (s .args .c .adjustment .0)
-adjustment-fits s = search needs
-
-adjustment-is : (s : tie.Start) → toZ w32 (ofZ w32 (s .args .c .adjustment .0)) ≡ s .args .c .adjustment .0
-adjustment-is s = toZ-ofZ (adjustment-fits s)
 
 -- by the flag: 0, 1, and out of its range
 interval-test : (flag n : ℕ) → leb flag 1 && leb n (flag * 1024) ≡ leb flag 1 && leb n 1024 && (eqb flag 1 || eqb n 0)
 interval-test zero n = zero-only 1024 n
 interval-test (suc zero) n = sym (and-one (leb n 1024))
 interval-test (suc (suc flag)) n = simp (lt-leb (suc (suc flag)) 1 (omega arith))
-
-device-of-requires : tie.Need-device-of-requires
-device-of-requires c κs = search needs
 
 cast-result : tie.Need-cast-result
 cast-result c = search needs
@@ -37,10 +24,7 @@ mul-result : tie.Need-mul-result
 mul-result c = search needs
 
 returns : tie.Need-returns
-returns c =
-    let d = c .before .before .before .before .before .before .before .before .before .before .before .before .before .before .before in
-    let k = d .before .args .c .kind in
-    simp (d .device-of .ensures, adjustment-is, interval-test, toZ-ofZ (fits-least k), toZ-ofZ (fits-most k))
+returns c = simp interval-test
 
 pub last-fields-in-range-spec : {M : Type 1} → statement M
-last-fields-in-range-spec = tie.close (tie.spec device-of-requires cast-result mul-result returns)
+last-fields-in-range-spec = tie.close (tie.spec cast-result mul-result returns)
