@@ -118,7 +118,7 @@ struct heukelvos_clock {
 /* The answer of a call that may change the clock, and of heukelvos_fresh: 48 bytes. */
 struct heukelvos_outcome {
 	uint8_t refusal;
-	struct heukelvos_clock clock; /* after the call; where it is refused, as it was handed in */
+	struct heukelvos_clock clock; /* after the call; where it is refused, as it was handed in, and from heukelvos_fresh that of kind 0 */
 };
 
 /* The answer of a catch-up by value: 64 bytes. */
@@ -195,7 +195,7 @@ struct heukelvos_counted heukelvos_catch_up(struct heukelvos_clock *clock, uint6
  *                      6, 7, 8, 9
  * heukelvos_read       what the clock shows. Refusal 1: the reading is then zeros and status 4
  */
-struct heukelvos_outcome heukelvos_fresh(uint8_t kind);
+struct heukelvos_outcome heukelvos_fresh(uint64_t kind);
 bool heukelvos_in_range(struct heukelvos_clock clock);
 struct heukelvos_outcome heukelvos_ticked(struct heukelvos_clock clock);
 struct heukelvos_catch_up_answer heukelvos_caught_up(struct heukelvos_clock clock, uint64_t ceiling, bool stop);

@@ -245,24 +245,34 @@ static bool layout(int kind)
 		&& c.updated == 1 && c.interval == 0 && c.status == HEUKELVOS_TIME_DEL && c.kind == kind && heukelvos_in_range(c);
 }
 
-/* The fresh clock of each kind; of every other number refusal 1, and the clock of kind 0. */
+/* The fresh clock of a number: of a kind its own, of every other number refusal 1, and the clock of kind 0. */
+static bool fresh_clock(uint64_t number)
+{
+	bool known = number < KINDS;
+	struct heukelvos_outcome o = heukelvos_fresh(number);
+	Clock c = { 0 };
+	c.kind = known ? number : HEUKELVOS_KIND_256;
+	c.adjustment = devices[c.kind].base;
+	c.maxerror = c.esterror = HEUKELVOS_MAX_ERROR;
+	c.status = HEUKELVOS_TIME_BAD;
+	if (o.refusal == (known ? HEUKELVOS_ACCEPTED : HEUKELVOS_REFUSED_STATE) && same(o.clock, c) && heukelvos_in_range(c))
+		return true;
+	printf("    number %" PRIu64 ": refusal %d\n", number, o.refusal);
+	show("fresh", o.clock);
+	return false;
+}
+
+/* The numbers of a byte; and those whose low 8, 16 or 32 bits are a kind's, which a cut would make it. */
 static bool fresh_clocks(void)
 {
-	for (int number = 0; number <= UINT8_MAX; number++) {
-		bool known = number < KINDS;
-		struct heukelvos_outcome o = heukelvos_fresh(number);
-		Clock c = { 0 };
-		c.kind = known ? number : HEUKELVOS_KIND_256;
-		c.adjustment = devices[c.kind].base;
-		c.maxerror = c.esterror = HEUKELVOS_MAX_ERROR;
-		c.status = HEUKELVOS_TIME_BAD;
-		if (o.refusal != (known ? HEUKELVOS_ACCEPTED : HEUKELVOS_REFUSED_STATE) || !same(o.clock, c) || !heukelvos_in_range(c)) {
-			printf("    number %d: refusal %d\n", number, o.refusal);
-			show("fresh", o.clock);
+	for (uint64_t number = 0; number <= UINT8_MAX; number++)
+		if (!fresh_clock(number))
 			return false;
-		}
-	}
-	return true;
+	for (int width = 8; width < 64; width++)
+		for (int kind = 0; kind < KINDS; kind++)
+			if (!fresh_clock((UINT64_C(1) << width) + kind))
+				return false;
+	return fresh_clock(UINT64_MAX);
 }
 
 /* A million ticks from ten seconds before a leap on: a rollover at which it is made counts a second less, or one more. */

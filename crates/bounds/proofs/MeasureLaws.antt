@@ -20,7 +20,7 @@ longest d = 268435456 * d .tick .0 + posPart (d .most .0)
 pub record MeasureLaws (d : Device) (m : Measure) : Type 0 where
   -- a phase unit is as many units of exact time as the device's divisor says
   pub perMicro : m .perMicro ≡ 268435456 * d .divisor
-  -- the second of every device has the same units of exact time, by its rate: 1/rate of 2^-24 us
+  -- the tick of every device has as many units of exact time, which are 1/rate of 2^-24 us
   pub tick : m .tick ≡ 16777216000000
   pub parts : m .parts ≡ d .rate
   pub short : shortest d + negPart (d .least .0) ≡ 268435456 * d .tick .0 + posPart (d .least .0)

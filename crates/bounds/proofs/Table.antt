@@ -6,8 +6,9 @@ use Rattle.clock.specs.Rollover.{rolledOver}
 use Rattle.clock.specs.Tick.{ticked, tickRefusal, tickOf}
 use Rattle.clock.specs.Setting.{settingRefusal, settingOf}
 use Rattle.request.specs.Request.{requestRefusal, requested, requestOf}
+use Rattle.bounds.specs.Measure.{measureOf}
 use Rattle.bounds.specs.Cases.{MarkedCases}
 
 pub marked-cases : MarkedCases
-unfolding deviceOf inRange rolledOver ticked tickRefusal tickOf settingRefusal settingOf requestRefusal requested requestOf
+unfolding deviceOf measureOf inRange rolledOver ticked tickRefusal tickOf settingRefusal settingOf requestRefusal requested requestOf
 marked-cases = refl

@@ -18,6 +18,7 @@ use Rattle.event.specs.Event.{answerOf}
 use Rattle.event.specs.declared.event.Call.{Call}
 use Rattle.event.specs.declared.event.Call.the-variants as call
 use Rattle.bounds.specs.Calls.{next}
+use Rattle.bounds.specs.Measure.{measureOf}
 
 -- The fields of a clock that a row names: those that count, and those that are signed.
 pub data CountField : Type 0 where
@@ -129,7 +130,7 @@ abbrev pub does : Doing → Clock → Seen
 does (callOf e) c = seen c e
 does (tickTimes zero) c = record { got = c; refused = 0; clock = c }
 does (tickTimes (suc n)) c = tickBy n c
-does rollover c = rollBy 1024 c
+does rollover c = rollBy (measureOf (c .kind) .parts) c
 
 -- a rollover that is to be done is one: its tick is accepted and rolls over
 abbrev pub isDone : Doing → Seen → Bool
@@ -296,6 +297,12 @@ markedCases =
     ∷ row (kind ≔ kind1024 ∷ constant ≔ 4 ∷ frequency ≔ℤ pos 0 ∷ [])
     (callOf (asks (pos 1000)) then (refusal 0 ∷ [])
     ∷ rollover then (seconds is 1 ∷ left isℤ pos 16383000 ∷ adjustment isℤ pos 151010944 ∷ []) ∷ [])
+    ∷ row (kind ≔ kind1024 ∷ left ≔ℤ negℤ (pos 1023) ∷ constant ≔ 0 ∷ frequency ≔ℤ negℤ (pos 63) ∷ [])
+    (rollover then (seconds is 1 ∷ left isℤ negℤ (pos 1023) ∷ adjustment isℤ pos 150994944 ∷ []) ∷ [])
+    ∷ row (kind ≔ kind1024 ∷ phase ≔ℤ pos 268435455 ∷ adjustment ≔ℤ pos 209977088 ∷ [])
+    (tickTimes 1 then (carried (pos 1) ∷ micros 977 ∷ phase isℤ pos 209977087 ∷ []) ∷ [])
+    ∷ row (kind ≔ kind1024 ∷ phase ≔ℤ negℤ (pos 200000000) ∷ adjustment ≔ℤ pos 92012800 ∷ [])
+    (tickTimes 1 then (carried (pos 0) ∷ micros 976 ∷ phase isℤ negℤ (pos 107987200) ∷ []) ∷ [])
     ∷ row (kind ≔ kind1024 ∷ frequency ≔ℤ pos 6400 ∷ [])
     (callOf (set 5 0) then (refusal 0 ∷ kind is kind1024 ∷ adjustment isℤ pos 150995044 ∷ []) ∷ [])
     ∷ row (kind ≔ 2 ∷ [])

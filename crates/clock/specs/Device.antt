@@ -48,6 +48,6 @@ kindRange n = leb n kind1024
 unfoldable pub deviceOf : ℕ → Device
 deviceOf kind = cond (eqb kind kind1024) recorder1024 recorder256
 
--- what is told of a kind's constants: "Any other kind [..] is refusal 1"
+-- what is told of a kind's constants; of a number that is no kind refusal 1, as of a clock that carries one, and the constants of kind 0
 abbrev pub constantsOf : ℕ → Constants
 constantsOf kind = record { refusal = refuse (not (kindRange kind)) 1 0; device = deviceOf kind }

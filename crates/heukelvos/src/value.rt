@@ -16,11 +16,18 @@ use clock::Outcome;
 use clock::Told;
 use request::Request;
 
+// The greatest number that `clock::fresh` can be given, and no kind.
+const LAST_BYTE: u64 = 255;
+
+// C cuts a number to the width of its argument and says nothing: so it is 64 bits wide, and judged before it is cut.
 #[no_mangle]
-pub extern "C" fn heukelvos_fresh(kind: u8) -> Outcome
+pub extern "C" fn heukelvos_fresh(kind: u64) -> Outcome
     ensures { λ r. ⌜ r ≡ freshOf kind ⌝ }
 {
-    clock::fresh(kind)
+    if LAST_BYTE < kind {
+        return clock::fresh(LAST_BYTE as u8);
+    }
+    clock::fresh(kind as u8)
 }
 
 #[no_mangle]

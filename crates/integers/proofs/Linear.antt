@@ -1,7 +1,7 @@
 -- An integer as a difference of two naturals: `Diff z p n` says that z is p - n. The difference of a sum is had from those of its
 -- summands, so that a linear statement on integers becomes one on naturals, with no case split for `omega`.
 use mathlib.Core.Path.{_≡_, refl, sym, ap, _∙_}
-use Prim.Native.Nat.{ℕ, _+_, _*_, _/_, _≤_}
+use Prim.Native.Nat.{ℕ, _+_, _*_, _/_}
 use native.Mathlib.Omega.{arith}
 use native.Mathlib.Nat.{mul-add, add-mul}
 use lib.IntN.{ℤ, pos, negℤ, _+ℤ_, _-ℤ_, _*ℤ_}
@@ -34,7 +34,3 @@ timesR {a} {p} {n} k x = record { eq = simp parts (sym (add-mul (posPart a) n k)
 
 pub quot : (a : ℤ) (k : ℕ) → Diff (quotZ a (pos k)) (posPart a / k) (negPart a / k)
 quot a k = record { eq = simp parts }
-
--- the order of two differences, at most k apart
-pub close : {a b : ℤ} {p n q m : ℕ} (k : ℕ) → Diff a p n → Diff b q m → p + m ≤ q + n + k → posPart a + negPart b ≤ posPart b + negPart a + k
-close k x y h = omega (arith, x .eq, y .eq)

@@ -93,7 +93,7 @@ fn restore_an_old_record() {
     restore(b"a record of version 1", bytes);
 }
 
-// Any bytes may be handed in. Those that are no record get a refusal, and give the fresh clock.
+// Any bytes may be handed in. Those that are no record get a refusal, and give the fresh clock of kind 0.
 fn restore(what: &[u8], bytes: &[u8]) {
     let restored = record::read(bytes);
     show_refusal(what, restored.refusal);
