@@ -31,8 +31,8 @@ fn moved(c: Clock, values: &[u64; 64], k: u64) -> Clock {
 fn clocks(values: &[u64; 64]) -> [Clock; 64]
     ensures { λ r. ⌜ length r ≡ 64 ⌝ }
 {
-    let unused = fresh(KIND_256).clock;
-    let mut all = [unused; 64];
+    let new = fresh(KIND_256).clock;
+    let mut all = [new; 64];
     let mut i: usize = 0;
     while i < 64 {
         let k = i as u64;

@@ -25,7 +25,8 @@ use crate::units::Micros;
 use crate::units::OffsetUnits;
 use crate::units::PhaseUnits;
 
-// A clock's state, in the order of document 01's table. Any value of the type may be handed in, sound or not.
+// A clock's state, in the order of document 01's table; document 02's kind is last, where it costs a tick least. Any value of the type may be
+// handed in, sound or not.
 #[repr(C)]
 pub struct Clock {
     // seconds since 1970-01-01T00:00:00Z
