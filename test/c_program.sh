@@ -12,7 +12,7 @@ of_header() {
 
 # Every public constant of the crates that is written as a number, the same way.
 of_crates() {
-    cat crates/clock/src/*.rt crates/request/src/*.rt | sed -n 's/^pub const \([A-Z0-9_]*\): [a-z0-9]* = \(-\{0,1\}[0-9]*\);$/\1 \2/p'
+    cat crates/state/src/*.rt crates/clock/src/*.rt crates/request/src/*.rt | sed -n 's/^pub const \([A-Z0-9_]*\): [a-z0-9]* = \(-\{0,1\}[0-9]*\);$/\1 \2/p'
 }
 
 same_numbers() {

@@ -10,16 +10,16 @@ use lib.Dec.{eqb}
 use lib.IntN.{ℤ, pos, _+ℤ_, _*ℤ_}
 use Rattle.integers.proofs.Parts.{posPart, negPart, parts, eq-parts}
 use Rattle.integers.proofs.Linear.{Diff, self, lit, add, sub, times, timesR, quot}
-use Rattle.clock.specs.Device.{deviceOf}
-use Rattle.clock.specs.State.{freshClock}
+use Rattle.state.specs.Device.{deviceOf}
+use Rattle.state.specs.State.{freshClock}
 use Rattle.clock.specs.Rollover.{rolledOver, adjustmentFor, leapSeconds}
 use Rattle.clock.specs.Tick.{tickOf, advanced, microsGrown, carry, phaseLeft}
 use Rattle.clock.specs.Setting.{settingOf}
-use Rattle.clock.specs.declared.device.Device.{Device}
-use Rattle.clock.specs.declared.state.Clock.{Clock}
-use Rattle.clock.specs.declared.units.AskedMicros.{AskedMicros}
-use Rattle.clock.proofs.DeviceLaws.{laws, divisor-pos}
-use Rattle.clock.proofs.Ok.{Ok}
+use Rattle.state.specs.declared.device.Device.{Device}
+use Rattle.state.specs.declared.state.Clock.{Clock}
+use Rattle.state.specs.declared.units.AskedMicros.{AskedMicros}
+use Rattle.state.proofs.DeviceLaws.{laws, divisor-pos}
+use Rattle.state.proofs.Ok.{Ok}
 use Rattle.clock.proofs.RollLaws.{LeapCase, ins, del, none, leapCase, rolled-ok}
 use Rattle.clock.proofs.SettingCases.{SettingCase, refused, done, settingCase}
 use Rattle.clock.proofs.TickCases.{TickCase, out, last, plain, rolls, tickCase}

@@ -7,13 +7,13 @@ use native.Mathlib.Omega.{arith}
 use borrow.Author.Tests.{not-true}
 use Rattle.integers.proofs.Parts.{negPart, parts}
 use Rattle.integers.proofs.Ranges.{and-true}
-use Rattle.clock.specs.Device.{deviceOf}
+use Rattle.state.specs.Device.{deviceOf}
 use Rattle.clock.specs.Rollover.{rolledOver, inserts, leapSeconds}
 use Rattle.clock.specs.Tick.{tickOf, carry, microsGrown}
 use Rattle.clock.specs.Setting.{settingOf}
-use Rattle.clock.specs.declared.state.Clock.{Clock}
-use Rattle.clock.specs.declared.units.AskedMicros.{AskedMicros}
-use Rattle.clock.proofs.Ok.{Ok}
+use Rattle.state.specs.declared.state.Clock.{Clock}
+use Rattle.state.specs.declared.units.AskedMicros.{AskedMicros}
+use Rattle.state.proofs.Ok.{Ok}
 use Rattle.clock.proofs.RollLaws.{LeapCase, ins, del, none, leapCase}
 use Rattle.clock.proofs.SettingCases.{SettingCase, refused, done, settingCase}
 use Rattle.clock.proofs.TickCases.{TickCase, out, last, plain, rolls, tickCase}

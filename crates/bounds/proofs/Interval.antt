@@ -4,12 +4,12 @@ use mathlib.Core.Bool.{Bool, true, false}
 use mathlib.Core.List.{List, [], _∷_}
 use Prim.Native.Nat.{ℕ, _+_}
 use native.Mathlib.Omega.{arith}
-use Rattle.clock.specs.State.{freshClock, Update, updateOf}
+use Rattle.state.specs.State.{freshClock, Update, updateOf}
 use Rattle.clock.specs.Rollover.{intervalGrown, rolledOver}
 use Rattle.clock.specs.Tick.{tickOf}
 use Rattle.clock.specs.Setting.{settingOf}
-use Rattle.clock.specs.declared.state.Clock.{Clock}
-use Rattle.clock.specs.declared.units.AskedMicros.{AskedMicros}
+use Rattle.state.specs.declared.state.Clock.{Clock}
+use Rattle.state.specs.declared.units.AskedMicros.{AskedMicros}
 use Rattle.clock.proofs.SettingCases.{SettingCase, refused, done, settingCase}
 use Rattle.clock.proofs.TickCases.{TickCase, out, last, plain, rolls, tickCase}
 use Rattle.request.specs.Request.{selectsOffset, requested, requestOf}

@@ -6,8 +6,8 @@ use Prim.Native.Nat.{ℕ, _+_, _-_, _*_, _≤_, _<_}
 use native.Mathlib.Omega.{arith}
 use lib.Dec.{eqb}
 use Rattle.integers.proofs.Parts.{posPart, negPart}
-use Rattle.clock.specs.Device.{recorder256, recorder1024, deviceOf}
-use Rattle.clock.specs.declared.device.Device.{Device}
+use Rattle.state.specs.Device.{recorder256, recorder1024, deviceOf}
+use Rattle.state.specs.declared.device.Device.{Device}
 use Rattle.bounds.specs.Measure.{Measure, measure256, measure1024, measureOf, EachInUnits}
 
 -- the time of the shortest and of the longest tick (phase units)

@@ -9,14 +9,14 @@ use native.Mathlib.Nat.{mul-le-mul-right, lt-of-mul-lt-mul-right}
 use lib.IntN.{ℤ, pos, natAbs, _+ℤ_, _-ℤ_, _*ℤ_}
 use Rattle.integers.proofs.Parts.{posPart, negPart, one-part, abs-parts}
 use Rattle.integers.proofs.Linear.{Diff, self, lit, add, sub, times}
-use Rattle.clock.specs.Device.{deviceOf}
-use Rattle.clock.specs.State.{freshClock}
+use Rattle.state.specs.Device.{deviceOf}
+use Rattle.state.specs.State.{freshClock}
 use Rattle.clock.specs.Rollover.{rolledOver, share, offsetLeft}
 use Rattle.clock.specs.Tick.{tickOf, microsGrown, phaseLeft}
 use Rattle.clock.specs.Setting.{settingOf}
-use Rattle.clock.specs.declared.device.Device.{Device}
-use Rattle.clock.specs.declared.state.Clock.{Clock}
-use Rattle.clock.specs.declared.units.AskedMicros.{AskedMicros}
+use Rattle.state.specs.declared.device.Device.{Device}
+use Rattle.state.specs.declared.state.Clock.{Clock}
+use Rattle.state.specs.declared.units.AskedMicros.{AskedMicros}
 use Rattle.clock.proofs.RollLaws.{rest-posPart, rest-negPart}
 use Rattle.clock.proofs.SettingCases.{SettingCase, refused, done, settingCase}
 use Rattle.clock.proofs.TickCases.{TickCase, out, last, plain, rolls, tickCase}

@@ -4,16 +4,16 @@ use mathlib.Core.List.{List, [], _∷_, _++_}
 use Prim.Native.Nat.{ℕ, _≤_}
 use native.Mathlib.Omega.{arith}
 use borrow.Author.Needs.{needs}
-use Rattle.clock.specs.Device.{deviceOf}
-use Rattle.clock.specs.State.{freshClock}
+use Rattle.state.specs.Device.{deviceOf}
+use Rattle.state.specs.State.{freshClock}
 use Rattle.clock.specs.Rollover.{rolledOver}
 use Rattle.clock.specs.Tick.{tickOf}
 use Rattle.clock.specs.Setting.{settingOf}
 use Rattle.clock.specs.Reading.{readingOf, readingRefusal, shown}
-use Rattle.clock.specs.declared.state.Clock.{Clock}
-use Rattle.clock.specs.declared.units.AskedMicros.{AskedMicros}
-use Rattle.clock.proofs.DeviceLaws.{laws}
-use Rattle.clock.proofs.Ok.{adjusted, Ok, ok-back}
+use Rattle.state.specs.declared.state.Clock.{Clock}
+use Rattle.state.specs.declared.units.AskedMicros.{AskedMicros}
+use Rattle.state.proofs.DeviceLaws.{laws}
+use Rattle.state.proofs.Ok.{adjusted, Ok, ok-back}
 use Rattle.clock.proofs.SettingCases.{SettingCase, refused, done, settingCase}
 use Rattle.clock.proofs.TickCases.{TickCase, out, last, plain, rolls, tickCase}
 use Rattle.request.specs.Request.{requested, requestOf}

@@ -6,8 +6,8 @@ use Prim.Native.Nat.{ℕ, _≤_, _<_}
 use native.Mathlib.Omega.{arith}
 use lib.Dec.{leb, ltb}
 use borrow.Author.Tests.{leb-false, ltb-false}
-use Rattle.clock.specs.Device.{deviceOf}
-use Rattle.clock.specs.State.{inRange}
+use Rattle.state.specs.Device.{deviceOf}
+use Rattle.state.specs.State.{inRange}
 use Rattle.clock.specs.Reading.{readingOf, readingRefusal}
 use Rattle.clock.specs.Rollover.{rolledOver}
 use Rattle.clock.specs.Tick.{ticked, tickRefusal, tickOf}

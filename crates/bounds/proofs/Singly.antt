@@ -2,8 +2,8 @@
 use mathlib.Core.Path.{_≡_, refl, sym, _∙_, ap, subst}
 use mathlib.Core.List.{List, [], _∷_, _++_, append-assoc, append-nil}
 use Prim.Native.Nat.{ℕ}
-use Rattle.clock.specs.State.{freshClock}
-use Rattle.clock.specs.declared.state.Clock.{Clock}
+use Rattle.state.specs.State.{freshClock}
+use Rattle.state.specs.declared.state.Clock.{Clock}
 use Rattle.event.specs.Event.{answerOf, stepOf}
 use Rattle.event.specs.declared.event.Call as call
 use Rattle.event.specs.declared.event.Event.{Event}

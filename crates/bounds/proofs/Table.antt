@@ -1,7 +1,7 @@
 -- Every marked case holds: computed.
 use mathlib.Core.Path.{refl}
-use Rattle.clock.specs.Device.{deviceOf}
-use Rattle.clock.specs.State.{inRange}
+use Rattle.state.specs.Device.{deviceOf}
+use Rattle.state.specs.State.{inRange}
 use Rattle.clock.specs.Rollover.{rolledOver}
 use Rattle.clock.specs.Tick.{ticked, tickRefusal, tickOf}
 use Rattle.clock.specs.Setting.{settingRefusal, settingOf}

@@ -10,11 +10,11 @@ use lib.IntN.{pos, _+ℤ_, _-ℤ_}
 use Rattle.integers.proofs.Parts.{one-part, abs-parts}
 use Rattle.integers.proofs.Linear.{self, lit, add, sub, times}
 use Rattle.integers.proofs.Ranges.{and-true}
-use Rattle.clock.specs.Device.{kindRange}
-use Rattle.clock.specs.State.{freshClock}
+use Rattle.state.specs.Device.{kindRange}
+use Rattle.state.specs.State.{freshClock}
 use Rattle.clock.specs.Tick.{rollsOver}
-use Rattle.clock.specs.declared.state.Clock.{Clock}
-use Rattle.clock.proofs.DeviceLaws.{laws}
+use Rattle.state.specs.declared.state.Clock.{Clock}
+use Rattle.state.proofs.DeviceLaws.{laws}
 use Rattle.event.specs.Event.{stepOf}
 use Rattle.event.specs.declared.event.Call.the-variants.{Tick, Reading}
 use Rattle.event.specs.declared.event.Event.{Event}

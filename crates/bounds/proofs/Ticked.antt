@@ -6,10 +6,10 @@ use native.Mathlib.Omega.{arith}
 use lib.Dec.{eqb}
 use borrow.Author.Tests.{eqb-true, eqb-false}
 use Rattle.integers.proofs.Ranges.{and-true}
-use Rattle.clock.specs.State.{inRange}
+use Rattle.state.specs.State.{inRange}
 use Rattle.clock.specs.Tick.{rollsOver, tickOf}
 use Rattle.clock.specs.Ticks.{ranOf, oneMore, catchUpRefusal, catchUpOf}
-use Rattle.clock.specs.declared.state.Clock.{Clock}
+use Rattle.state.specs.declared.state.Clock.{Clock}
 use Rattle.clock.specs.declared.run.CaughtUp.{CaughtUp}
 use Rattle.clock.proofs.TickCases.{TickCase, out, last, plain, rolls, tickCase}
 use Rattle.clock.proofs.RunLaws.{ticked-in-range}

@@ -5,12 +5,12 @@ use Prim.Native.Nat.{ℕ, _+_, _*_}
 use mathlib.Core.Bool.{cond}
 use mathlib.Core.List.{List, [], _∷_}
 use lib.IntN.{ℤ, pos, _+ℤ_, _-ℤ_, _*ℤ_}
-use Rattle.clock.specs.Units.{offsetUnitsPerMicro, microsPerSecond}
-use Rattle.clock.specs.State.{freshClock}
+use Rattle.state.specs.Units.{offsetUnitsPerMicro, microsPerSecond}
+use Rattle.state.specs.State.{freshClock}
 use Rattle.clock.specs.Rollover.{share}
 use Rattle.clock.specs.Tick.{rollsOver}
-use Rattle.clock.specs.declared.state.Clock.{Clock}
-use Rattle.clock.specs.declared.units.AskedMicros.{AskedMicros}
+use Rattle.state.specs.declared.state.Clock.{Clock}
+use Rattle.state.specs.declared.units.AskedMicros.{AskedMicros}
 use Rattle.request.specs.Request.{selectsOffset}
 use Rattle.request.specs.declared.request.Request.{Request}
 use Rattle.event.specs.declared.event.Call.{Call}

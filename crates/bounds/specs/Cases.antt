@@ -8,11 +8,11 @@ use mathlib.Core.List.{List, [], _∷_}
 use lib.Dec.{eqb}
 use lib.IntN.{ℤ, pos, negℤ}
 use lib.Signed.{leZ}
-use Rattle.clock.specs.Units.{offsetUnits, phaseUnits, frequencyUnits}
-use Rattle.clock.specs.Device.{kind256, kind1024}
-use Rattle.clock.specs.State.{freshClock, errorsOf, whole, statusOk, statusIns, statusDel, statusOop}
+use Rattle.state.specs.Units.{offsetUnits, phaseUnits, frequencyUnits}
+use Rattle.state.specs.Device.{kind256, kind1024}
+use Rattle.state.specs.State.{freshClock, errorsOf, whole, statusOk, statusIns, statusDel, statusOop}
 use Rattle.clock.specs.Tick.{carry, rollsOver}
-use Rattle.clock.specs.declared.state.Clock.{Clock}
+use Rattle.state.specs.declared.state.Clock.{Clock}
 use Rattle.request.specs.Request.{modeBits}
 use Rattle.event.specs.Event.{answerOf}
 use Rattle.event.specs.declared.event.Call.{Call}

@@ -4,10 +4,10 @@ use mathlib.Core.Path.{_≡_}
 use mathlib.Core.Bool.{Bool, true}
 use mathlib.Core.List.{List, [], _∷_, _++_}
 use lib.IntN.{ℤ, pos, natAbs, _-ℤ_, _*ℤ_}
-use Rattle.clock.specs.Units.{microsPerSecond, phaseUnitsPerMicro}
-use Rattle.clock.specs.Device.{kindRange}
+use Rattle.state.specs.Units.{microsPerSecond, phaseUnitsPerMicro}
+use Rattle.state.specs.Device.{kindRange}
 use Rattle.clock.specs.Ticks.{catchUpOf}
-use Rattle.clock.specs.declared.state.Clock.{Clock}
+use Rattle.state.specs.declared.state.Clock.{Clock}
 use Rattle.clock.specs.declared.reading.Reading as shows
 use Rattle.event.specs.Event.{stepOf}
 use Rattle.event.specs.declared.event.Call.the-variants.{Tick, Reading}

@@ -4,8 +4,8 @@ use Prim.Native.Nat.{ℕ, _+_, min}
 use mathlib.Core.Path.{_≡_}
 use mathlib.Core.Bool.{Bool, true, false, _&&_, cond}
 use mathlib.Core.List.{List, [], _∷_}
-use Rattle.clock.specs.State.{freshClock, Update, updateOf, noUpdate, longestInterval}
-use Rattle.clock.specs.declared.state.Clock.{Clock}
+use Rattle.state.specs.State.{freshClock, Update, updateOf, noUpdate, longestInterval}
+use Rattle.state.specs.declared.state.Clock.{Clock}
 use Rattle.request.specs.Request.{selectsOffset}
 use Rattle.event.specs.declared.event.Call.{Call}
 use Rattle.event.specs.declared.event.Call.the-variants.{Tick, Setting, Request, Reading}

@@ -3,9 +3,9 @@ use Prim.Native.Nat.{ℕ, suc, _≤_, _<_}
 use mathlib.Core.Path.{_≡_}
 use mathlib.Core.Bool.{Bool, true, false, _&&_}
 use mathlib.Core.List.{List, [], _∷_, _++_}
-use Rattle.clock.specs.State.{freshClock}
+use Rattle.state.specs.State.{freshClock}
 use Rattle.clock.specs.Tick.{rollsOver}
-use Rattle.clock.specs.declared.state.Clock.{Clock}
+use Rattle.state.specs.declared.state.Clock.{Clock}
 use Rattle.event.specs.Event.{answerOf, stepOf}
 use Rattle.event.specs.declared.event.Call.the-variants.{Tick}
 use Rattle.event.specs.declared.event.Event.{Event}

@@ -4,8 +4,8 @@ use Prim.Native.Nat.{ℕ, _+_, _*_, _/_, _^_}
 use mathlib.Core.Path.{_≡_}
 use mathlib.Core.Bool.{cond}
 use lib.Dec.{eqb}
-use Rattle.clock.specs.Units.{offsetUnitsPerMicro, frequencyUnitsPerPpm}
-use Rattle.clock.specs.Device.{kind1024}
+use Rattle.state.specs.Units.{offsetUnitsPerMicro, frequencyUnitsPerPpm}
+use Rattle.state.specs.Device.{kind1024}
 
 pub record Measure : Type 0 where
   -- units of exact time in a microsecond

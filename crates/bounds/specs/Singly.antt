@@ -1,9 +1,9 @@
 -- Document 02, Req 01: "Demand 3 counts these ticks as if made singly." A list of events as a list of single calls.
 use Prim.Native.Nat.{ℕ, zero, suc}
 use mathlib.Core.List.{List, [], _∷_, _++_}
-use Rattle.clock.specs.State.{freshClock}
+use Rattle.state.specs.State.{freshClock}
 use Rattle.clock.specs.Ticks.{catchUpOf}
-use Rattle.clock.specs.declared.state.Clock.{Clock}
+use Rattle.state.specs.declared.state.Clock.{Clock}
 use Rattle.event.specs.Event.{stepOf}
 use Rattle.event.specs.declared.event.Call.{Call}
 use Rattle.event.specs.declared.event.Call.the-variants.{Tick}

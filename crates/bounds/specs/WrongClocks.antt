@@ -6,12 +6,12 @@ use mathlib.Core.Bool.{Bool, false, not, _&&_, cond}
 use mathlib.Core.List.{List, [], _∷_}
 use lib.Dec.{eqb}
 use lib.IntN.{pos, natAbs}
-use Rattle.clock.specs.Units.{offsetUnitsPerMicro}
-use Rattle.clock.specs.Device.{kind256, kind1024}
-use Rattle.clock.specs.State.{freshClock, timeOf, tuningOf, updateOf, errorsOf, whole}
+use Rattle.state.specs.Units.{offsetUnitsPerMicro}
+use Rattle.state.specs.Device.{kind256, kind1024}
+use Rattle.state.specs.State.{freshClock, timeOf, tuningOf, updateOf, errorsOf, whole}
 use Rattle.clock.specs.Reading.{noReading}
 use Rattle.clock.specs.Tick.{rollsOver}
-use Rattle.clock.specs.declared.state.Clock.{Clock}
+use Rattle.state.specs.declared.state.Clock.{Clock}
 use Rattle.event.specs.Event.{stepOf}
 use Rattle.event.specs.declared.event.Call.the-variants.{Tick, Setting, Request, Reading}
 use Rattle.event.specs.declared.event.Event.{Event}

@@ -11,14 +11,15 @@ use mir.Val.{Fits, SFits, toZ, ofZ}
 use mir.Facts.{toZ-pos, toZ-ofZ}
 use Rattle.integers.proofs.Parts.{posPart, negPart, parts, one-part, eq-parts, sfits-parts, abs-parts, nonNeg-parts, posPart-add, negPart-add, posPart-quot, negPart-quot, times-posPart, times-negPart}
 use Rattle.integers.proofs.Carrying.{Way, carry-step, rest-step, steps-way}
-use Rattle.clock.specs.Units.{micros}
-use Rattle.clock.specs.Device.{deviceOf}
+use Rattle.state.specs.Units.{micros}
+use Rattle.state.specs.Device.{deviceOf}
+use Rattle.state.specs.Inner.{mostCarried}
+use Rattle.state.specs.declared.device.Device.{Device}
+use Rattle.state.specs.declared.state.Clock.{Clock}
+use Rattle.state.proofs.Ok.{Ok}
 use Rattle.clock.specs.Tick.{carry, phaseLeft, microsGrown, moved}
-use Rattle.clock.specs.Inner.{mostCarried, mostOfATick, Within, advanceOf, phaseSums, carries, phaseLater, microsLater, jumpOf}
-use Rattle.clock.specs.declared.device.Device.{Device}
-use Rattle.clock.specs.declared.state.Clock.{Clock}
+use Rattle.clock.specs.Inner.{mostOfATick, Within, advanceOf, phaseSums, carries, phaseLater, microsLater, jumpOf}
 use Rattle.clock.specs.declared.timer.Advance.{Advance}
-use Rattle.clock.proofs.Ok.{Ok}
 use Rattle.clock.proofs.TickLaws.{fits-phase, fits-adjustment, grown-eq}
 
 -- the clock j ticks later, where none of them reaches the end of the second

@@ -1,5 +1,3 @@
-pub mod DeviceLaws
-pub mod Ok
 pub mod RollLaws
 pub mod TickLaws
 pub mod TickCases

@@ -15,11 +15,11 @@ use mir.Val.{SFits}
 use Rattle.integers.proofs.Parts.{posPart, negPart, parts, one-part, posPart-add, negPart-add, sfits-parts}
 use Rattle.integers.proofs.Linear.{self, add}
 use Rattle.integers.proofs.Ranges.{and-true}
-use Rattle.clock.specs.Device.{deviceOf}
+use Rattle.state.specs.Device.{deviceOf}
+use Rattle.state.specs.declared.state.Clock.{Clock}
+use Rattle.state.proofs.DeviceLaws.{reach, laws}
+use Rattle.state.proofs.Ok.{Adjusted, adjusted, Ok}
 use Rattle.clock.specs.Rollover.{shareDivisor, share, offsetLeft, intervalGrown, adjustmentFor, inserts, deletes, leapSeconds, leapStatus, rolledOver}
-use Rattle.clock.specs.declared.state.Clock.{Clock}
-use Rattle.clock.proofs.DeviceLaws.{reach, laws}
-use Rattle.clock.proofs.Ok.{Adjusted, adjusted, Ok}
 
 -- n / 2^(10 + k) is at most n / 1024
 div-least : (n k : ℕ) → n / shareDivisor k ≤ n / 1024

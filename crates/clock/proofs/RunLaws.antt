@@ -5,16 +5,16 @@ use Prim.Native.Nat.{ℕ, zero, suc, _+_, _-_, _≤_, _<_}
 use native.Mathlib.Omega.{arith}
 use lib.Dec.{eqb}
 use borrow.Author.Tests.{lt-leb, ne-eqb, eqb-true}
-use Rattle.clock.specs.State.{inRange}
+use Rattle.state.specs.State.{inRange}
+use Rattle.state.specs.declared.state.Clock.{Clock}
+use Rattle.state.specs.declared.outcome.Outcome.{Outcome}
+use Rattle.state.proofs.Ok.{Ok, ok, ok-back}
 use Rattle.clock.specs.Tick.{moved, microsGrown, rollsOver, tickOf, tickRefusal, ticked}
 use Rattle.clock.specs.Ticks.{ended, oneMore, ranOf, catchUpRefusal, catchUpOf, ticksOf}
 use Rattle.clock.specs.Inner.{Within, advanceOf, jumpOf, adds, endsWith, TurnOf}
-use Rattle.clock.specs.declared.state.Clock.{Clock}
-use Rattle.clock.specs.declared.outcome.Outcome.{Outcome}
 use Rattle.clock.specs.declared.timer.Advance.{Advance}
 use Rattle.clock.specs.declared.run.CaughtUp.{CaughtUp}
 use Rattle.clock.specs.declared.run.Turn.{Turn}
-use Rattle.clock.proofs.Ok.{Ok, ok, ok-back}
 use Rattle.clock.proofs.TickCases.{TickCase, out, last, plain, rolls, tickCase}
 use Rattle.clock.proofs.TickLaws.{advanced-ok, grown-most}
 use Rattle.clock.proofs.RollLaws.{rolled-ok}

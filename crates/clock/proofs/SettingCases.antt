@@ -8,11 +8,11 @@ use lib.Dec.{leb, lit<}
 use lib.IntN.{pos}
 use borrow.Author.Tests.{leb-true}
 use Rattle.integers.proofs.Ranges.{and-true}
-use Rattle.clock.specs.State.{inRange, lastSecond, lastMicro}
+use Rattle.state.specs.State.{inRange, lastSecond, lastMicro}
+use Rattle.state.specs.declared.state.Clock.{Clock}
+use Rattle.state.specs.declared.units.AskedMicros.{AskedMicros}
+use Rattle.state.proofs.Ok.{Ok, ok}
 use Rattle.clock.specs.Setting.{setTo, settable, settingRefusal, settingOf}
-use Rattle.clock.specs.declared.state.Clock.{Clock}
-use Rattle.clock.specs.declared.units.AskedMicros.{AskedMicros}
-use Rattle.clock.proofs.Ok.{Ok, ok}
 use Rattle.clock.proofs.RollLaws.{adjustment-ok}
 
 pub data SettingCase (c : Clock) (s : ℕ) (u : AskedMicros) : Type 0 where

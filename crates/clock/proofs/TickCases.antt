@@ -5,11 +5,11 @@ use Prim.Native.Nat.{_-_, _≤_, _<_}
 use native.Mathlib.Omega.{arith}
 use lib.Dec.{eqb}
 use borrow.Author.Tests.{leb-true, leb-false, eqb-false}
-use Rattle.clock.specs.State.{inRange, lastSecond}
+use Rattle.state.specs.State.{inRange, lastSecond}
+use Rattle.state.specs.declared.state.Clock.{Clock}
+use Rattle.state.proofs.Ok.{Ok, ok}
 use Rattle.clock.specs.Rollover.{rolledOver}
 use Rattle.clock.specs.Tick.{tickOf, tickRefusal, ticked, advanced, rollsOver, microsGrown}
-use Rattle.clock.specs.declared.state.Clock.{Clock}
-use Rattle.clock.proofs.Ok.{Ok, ok}
 
 pub data TickCase (c : Clock) : Type 0 where
   out : inRange c ≡ false → tickOf c ≡ record { refusal = 1; clock = c } → TickCase c

@@ -8,10 +8,10 @@ use lib.Dec.{T}
 use mir.Syntax.{w32}
 use mir.Val.{Fits, SFits}
 use Rattle.integers.proofs.Parts.{posPart, negPart, parts, sfits-parts, abs-parts, nonNeg-parts, posPart-add}
-use Rattle.clock.specs.Device.{deviceOf}
+use Rattle.state.specs.Device.{deviceOf}
+use Rattle.state.specs.declared.state.Clock.{Clock}
+use Rattle.state.proofs.Ok.{Ok}
 use Rattle.clock.specs.Tick.{phaseSum, carry, phaseLeft, microsGrown, advanced}
-use Rattle.clock.specs.declared.state.Clock.{Clock}
-use Rattle.clock.proofs.Ok.{Ok}
 
 module _ (c : Clock) (k : Ok c) where
   pub fits-phase : SFits w32 (c .phase .0)

@@ -5,38 +5,19 @@ use mathlib.Core.Bool.{Bool, true, _&&_, _||_, not, cond}
 use lib.Dec.{eqb}
 use lib.IntN.{ℤ, pos, natAbs, _+ℤ_, _-ℤ_, _*ℤ_}
 use lib.Signed.{quotZ}
-use Rattle.clock.specs.Units.{micros, phaseUnits, offsetUnitsPerMicro, phaseUnitsPerMicro, microsPerSecond}
-use Rattle.clock.specs.Device.{kindRange, deviceOf}
-use Rattle.clock.specs.State.{greatestOffset, secondRange, microsRange, phaseRange, offsetRange, frequencyRange, adjustmentRange, constantRange, flagRange, intervalRange, zeroUnlessFlag, errorRange, statusRange, inRange}
+use Rattle.state.specs.Units.{micros, phaseUnits, offsetUnitsPerMicro, phaseUnitsPerMicro, microsPerSecond}
+use Rattle.state.specs.Device.{deviceOf}
+use Rattle.state.specs.State.{greatestOffset, inRange}
+use Rattle.state.specs.Inner.{mostCarried}
+use Rattle.state.specs.declared.device.Device.{Device}
+use Rattle.state.specs.declared.state.Clock.{Clock}
 use Rattle.clock.specs.Rollover.{shareDivisor, leapSeconds, leapStatus}
 use Rattle.clock.specs.Tick.{microsGrown, phaseLeft}
 use Rattle.clock.specs.Ticks.{ended, ranOf}
-use Rattle.clock.specs.declared.device.Device.{Device}
-use Rattle.clock.specs.declared.state.Clock.{Clock}
 use Rattle.clock.specs.declared.rollover.Leap.{Leap}
 use Rattle.clock.specs.declared.timer.Advance.{Advance}
 use Rattle.clock.specs.declared.run.CaughtUp.{CaughtUp}
 use Rattle.clock.specs.declared.run.Turn.{Turn}
-
--- the ranges of the fields up to the frequency; of those behind the adjustment; and of the kind, with the adjustment by it
-abbrev pub firstFieldsRange : Clock → Bool
-firstFieldsRange c =
-    secondRange (c .seconds)
-    && microsRange (c .micros .0)
-    && phaseRange (c .phase .0)
-    && offsetRange (c .offset .0)
-    && frequencyRange (c .frequency .0)
-
-abbrev pub lastFieldsRange : Clock → Bool
-lastFieldsRange c =
-    constantRange (c .constant)
-    && (flagRange (c .updated) && intervalRange (c .interval) && zeroUnlessFlag (c .updated) (c .interval))
-    && errorRange (c .maxerror .0)
-    && errorRange (c .esterror .0)
-    && statusRange (c .status)
-
-abbrev pub adjustmentOfKind : ℕ → ℤ → Bool
-adjustmentOfKind kind z = kindRange kind && adjustmentRange (deviceOf kind) z
 
 -- the size of the greatest share, of the greatest offset at time constant 0 (offset units)
 abbrev pub greatestShare : ℕ
@@ -69,10 +50,6 @@ microsLater j c = natAbs (pos (c .micros .0 + deviceOf (c .kind) .tick .0 * j) +
 
 abbrev pub jumpOf : ℕ → Clock → Advance
 jumpOf j c = record { micros = micros (microsLater j c); phase = phaseUnits (phaseLater j c) }
-
--- the most that a tick carries: the whole microseconds of the greatest adjustment, and one more with the phase (us)
-abbrev pub mostCarried : Device → ℕ
-mostCarried d = natAbs (d .most .0) / phaseUnitsPerMicro + 1
 
 -- the most that a tick adds: its own microseconds and what it carries (us)
 abbrev pub mostOfATick : Device → ℕ

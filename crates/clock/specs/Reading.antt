@@ -1,10 +1,10 @@
 -- "Reading. Seconds, microseconds, status, both errors; the state is not changed."
 use Prim.Native.Nat.{ℕ}
 use mathlib.Core.Bool.{not, cond}
-use Rattle.clock.specs.Units.{micros}
-use Rattle.clock.specs.State.{inRange, statusBad}
-use Rattle.clock.specs.Refusal.{refuse}
-use Rattle.clock.specs.declared.state.Clock.{Clock}
+use Rattle.state.specs.Units.{micros}
+use Rattle.state.specs.State.{inRange, statusBad}
+use Rattle.state.specs.Refusal.{refuse}
+use Rattle.state.specs.declared.state.Clock.{Clock}
 use Rattle.clock.specs.declared.reading.Reading.{Reading}
 use Rattle.clock.specs.declared.reading.Told.{Told}
 

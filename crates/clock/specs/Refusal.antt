@@ -1,14 +1,9 @@
--- "Numbers of the refusals", for the clock's own calls. 0 stands for no refusal.
+-- What a refused call answers, for the clock's own calls.
 use Prim.Native.Nat.{ℕ}
-use mathlib.Core.Bool.{Bool, cond}
+use mathlib.Core.Bool.{cond}
 use lib.Dec.{eqb}
-use Rattle.clock.specs.declared.state.Clock.{Clock}
-use Rattle.clock.specs.declared.outcome.Outcome.{Outcome}
-
--- Number n where its condition holds, else what the later conditions give. Written from the lowest number to the highest, such a
--- chain is "The lowest of 1 to 9 that applies is given".
-abbrev pub refuse : Bool → ℕ → ℕ → ℕ
-refuse applies n later = cond applies n later
+use Rattle.state.specs.declared.state.Clock.{Clock}
+use Rattle.state.specs.declared.outcome.Outcome.{Outcome}
 
 -- "A refused call hands back the state it got": the answer of a call on c with refusal n that would make `next` of c.
 abbrev pub answer : ℕ → Clock → Clock → Outcome

@@ -4,11 +4,11 @@ use mathlib.Core.Bool.{Bool, _&&_, cond}
 use lib.Dec.{eqb}
 use lib.IntN.{ℤ, pos, _+ℤ_, _-ℤ_, _*ℤ_}
 use lib.Signed.{quotZ}
-use Rattle.clock.specs.Units.{micros, offsetUnits, phaseUnits, secondsPerDay, lastSecondOfDay}
-use Rattle.clock.specs.Device.{deviceOf}
-use Rattle.clock.specs.State.{greatestError, longestInterval, statusOk, statusIns, statusDel, statusOop, tuningOf, whole}
-use Rattle.clock.specs.declared.device.Device.{Device}
-use Rattle.clock.specs.declared.state.Clock.{Clock}
+use Rattle.state.specs.Units.{micros, offsetUnits, phaseUnits, secondsPerDay, lastSecondOfDay}
+use Rattle.state.specs.Device.{deviceOf}
+use Rattle.state.specs.State.{greatestError, longestInterval, statusOk, statusIns, statusDel, statusOop, tuningOf, whole}
+use Rattle.state.specs.declared.device.Device.{Device}
+use Rattle.state.specs.declared.state.Clock.{Clock}
 
 -- README.kern's tolerance of 100 ppm: what a second may add to the maximum error (us)
 abbrev pub tolerance : ℕ

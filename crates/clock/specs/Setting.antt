@@ -3,14 +3,15 @@ use Prim.Native.Nat.{ℕ}
 use mathlib.Core.Bool.{Bool, _&&_, not}
 use lib.Dec.{leb}
 use lib.IntN.{pos}
-use Rattle.clock.specs.Units.{micros, offsetUnits, phaseUnits}
-use Rattle.clock.specs.Device.{deviceOf}
-use Rattle.clock.specs.State.{inRange, lastSecond, lastMicro, statusBad, tuningOf, whole, noUpdate, greatestErrors}
-use Rattle.clock.specs.Refusal.{refuse, answer}
+use Rattle.state.specs.Units.{micros, offsetUnits, phaseUnits}
+use Rattle.state.specs.Device.{deviceOf}
+use Rattle.state.specs.State.{inRange, lastSecond, lastMicro, statusBad, tuningOf, whole, noUpdate, greatestErrors}
+use Rattle.state.specs.Refusal.{refuse}
+use Rattle.state.specs.declared.state.Clock.{Clock}
+use Rattle.state.specs.declared.units.AskedMicros.{AskedMicros}
+use Rattle.state.specs.declared.outcome.Outcome.{Outcome}
+use Rattle.clock.specs.Refusal.{answer}
 use Rattle.clock.specs.Rollover.{adjustmentFor}
-use Rattle.clock.specs.declared.state.Clock.{Clock}
-use Rattle.clock.specs.declared.units.AskedMicros.{AskedMicros}
-use Rattle.clock.specs.declared.outcome.Outcome.{Outcome}
 
 -- "Both replaced; phase and offset left 0; no earlier update; adjustment as at a rollover with share 0; both errors 16,000,000;
 -- status BAD. Frequency and time constant stay." Document 02: the "device kind, 0 or 1, which a setting keeps".

@@ -4,15 +4,16 @@ use mathlib.Core.Bool.{Bool, _&&_, not, cond}
 use lib.Dec.{leb, eqb}
 use lib.IntN.{ℤ, pos, natAbs, _+ℤ_, _-ℤ_, _*ℤ_}
 use lib.Signed.{quotZ}
-use Rattle.clock.specs.Units.{micros, phaseUnits, phaseUnitsPerMicro, microsPerSecond}
-use Rattle.clock.specs.Device.{deviceOf}
-use Rattle.clock.specs.State.{inRange, lastSecond, correctionOf, tuningOf, updateOf, errorsOf, whole}
-use Rattle.clock.specs.Refusal.{refuse, answer}
+use Rattle.state.specs.Units.{micros, phaseUnits, phaseUnitsPerMicro, microsPerSecond}
+use Rattle.state.specs.Device.{deviceOf}
+use Rattle.state.specs.State.{inRange, lastSecond, correctionOf, tuningOf, updateOf, errorsOf, whole}
+use Rattle.state.specs.Refusal.{refuse}
+use Rattle.state.specs.declared.units.Micros.{Micros}
+use Rattle.state.specs.declared.units.PhaseUnits.{PhaseUnits}
+use Rattle.state.specs.declared.state.Clock.{Clock}
+use Rattle.state.specs.declared.outcome.Outcome.{Outcome}
+use Rattle.clock.specs.Refusal.{answer}
 use Rattle.clock.specs.Rollover.{rolledOver}
-use Rattle.clock.specs.declared.units.Micros.{Micros}
-use Rattle.clock.specs.declared.units.PhaseUnits.{PhaseUnits}
-use Rattle.clock.specs.declared.state.Clock.{Clock}
-use Rattle.clock.specs.declared.outcome.Outcome.{Outcome}
 
 -- "Phase becomes phase plus adjustment" (phase units)
 abbrev pub phaseSum : Clock → ℤ

@@ -3,11 +3,11 @@
 use mathlib.Core.Bool.{Bool, false, _&&_, cond, not}
 use Prim.Native.Nat.{ℕ, zero, suc}
 use lib.Dec.{eqb, ltb}
-use Rattle.clock.specs.State.{inRange}
-use Rattle.clock.specs.Refusal.{refuse}
+use Rattle.state.specs.State.{inRange}
+use Rattle.state.specs.Refusal.{refuse}
+use Rattle.state.specs.declared.state.Clock.{Clock}
+use Rattle.state.specs.declared.outcome.Outcome.{Outcome}
 use Rattle.clock.specs.Tick.{rollsOver, tickOf}
-use Rattle.clock.specs.declared.state.Clock.{Clock}
-use Rattle.clock.specs.declared.outcome.Outcome.{Outcome}
 use Rattle.clock.specs.declared.run.CaughtUp.{CaughtUp}
 
 -- a run that ends at c before any tick was accepted, by a tick that was refused with k, or by none (k is 0)

@@ -2,17 +2,17 @@
 ghost use mathlib.Core.Path.{_≡_};
 ghost use mathlib.Core.Bool.{true};
 ghost use Prim.Native.Nat.{_+_, _-_, _*_, _≤_, _<_};
-ghost use Rattle.clock.specs.Device.{deviceOf};
-ghost use Rattle.clock.specs.State.{inRange, lastMicro};
+ghost use Rattle.state.specs.Device.{deviceOf};
+ghost use Rattle.state.specs.State.{inRange, lastMicro};
 ghost use Rattle.clock.specs.Inner.{Within, jumpOf, mostOfATick};
-use crate::device::KIND_1024;
-use crate::device::device_of;
-use crate::limits::LAST_MICRO;
-use crate::limits::PHASE_PER_MICRO;
-use crate::state::Clock;
 use crate::timer::Advance;
-use crate::units::Micros;
-use crate::units::PhaseUnits;
+use state::Clock;
+use state::KIND_1024;
+use state::LAST_MICRO;
+use state::Micros;
+use state::PHASE_PER_MICRO;
+use state::PhaseUnits;
+use state::device_constants;
 
 // One over the most microseconds that a tick adds, 3,908 and 977 (2^-32, rounded down): to divide by a product.
 const PER_MICRO_256: u64 = 1099019;
@@ -50,7 +50,8 @@ pub(crate) fn jump(c: Clock, j: u64) -> Advance
     let carry = sum / PHASE_PER_MICRO as i64;
     Advance {
         micros: Micros(
-            ((c.micros.0 as u64 + device_of(c.kind).tick.0 as u64 * j) as i64 + carry) as u32,
+            ((c.micros.0 as u64 + device_constants(c.kind).device.tick.0 as u64 * j) as i64
+                + carry) as u32,
         ),
         phase: PhaseUnits((sum - carry * PHASE_PER_MICRO as i64) as i32),
     }

@@ -1,9 +1,9 @@
 ghost use mathlib.Core.Path.{_≡_};
 ghost use Rattle.clock.specs.Reading.{readingOf};
-use crate::limits::TIME_BAD;
-use crate::state::Clock;
-use crate::state::in_range;
-use crate::units::Micros;
+use state::Clock;
+use state::Micros;
+use state::TIME_BAD;
+use state::in_range;
 
 // What a clock shows.
 #[repr(C)]

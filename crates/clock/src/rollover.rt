@@ -2,25 +2,25 @@ ghost use mathlib.Core.Path.{_≡_};
 ghost use mathlib.Core.Bool.{true};
 ghost use Prim.Native.Nat.{_≤_, _<_};
 ghost use lib.IntN.{pos};
-ghost use Rattle.clock.specs.Units.{micros, offsetUnits, phaseUnits};
-ghost use Rattle.clock.specs.Device.{deviceOf};
-ghost use Rattle.clock.specs.State.{within, greatestConstant, longestInterval, greatestError, greatestFrequency, inRange, lastSecond};
+ghost use Rattle.state.specs.Units.{micros, offsetUnits, phaseUnits};
+ghost use Rattle.state.specs.Device.{deviceOf};
+ghost use Rattle.state.specs.State.{within, greatestConstant, longestInterval, greatestError, greatestFrequency, inRange, lastSecond};
 ghost use Rattle.clock.specs.Rollover.{maxerrorGrown, intervalGrown, shareDivisor, share, adjustmentFor, rolledOver};
 ghost use Rattle.clock.specs.Inner.{greatestShare, leapOf};
-use crate::device::device_of;
-use crate::limits::MAX_ERROR;
-use crate::limits::MAX_INTERVAL;
-use crate::limits::SECONDS_PER_DAY;
-use crate::limits::TIME_BAD;
-use crate::limits::TIME_DEL;
-use crate::limits::TIME_INS;
-use crate::limits::TIME_OK;
-use crate::limits::TIME_OOP;
-use crate::state::Clock;
-use crate::units::Frequency;
-use crate::units::Micros;
-use crate::units::OffsetUnits;
-use crate::units::PhaseUnits;
+use state::Clock;
+use state::Frequency;
+use state::MAX_ERROR;
+use state::MAX_INTERVAL;
+use state::Micros;
+use state::OffsetUnits;
+use state::PhaseUnits;
+use state::SECONDS_PER_DAY;
+use state::TIME_BAD;
+use state::TIME_DEL;
+use state::TIME_INS;
+use state::TIME_OK;
+use state::TIME_OOP;
+use state::device_constants;
 
 // README.kern's tolerance of 100 ppm: what a second may add to the maximum error (us).
 const TOLERANCE: u32 = 100;
@@ -71,8 +71,8 @@ pub(crate) fn adjustment_for(kind: u8, s: OffsetUnits, f: Frequency) -> PhaseUni
     requires { ⌜ within greatestFrequency (f .0) ≡ true ⌝ }
     ensures { λ r. ⌜ r ≡ phaseUnits (adjustmentFor (deviceOf kind) (s .0) (f .0)) ⌝ }
 {
-    let d = device_of(kind);
-    PhaseUnits(d.scale as i32 * s.0 + f.0 / (d.divisor as i32) + d.base.0)
+    let k = device_constants(kind);
+    PhaseUnits(k.device.scale as i32 * s.0 + f.0 / (k.device.divisor as i32) + k.device.base.0)
 }
 
 const LAST_SECOND_OF_DAY: u32 = SECONDS_PER_DAY - 1;

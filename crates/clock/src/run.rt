@@ -2,14 +2,14 @@
 ghost use mathlib.Core.Path.{_≡_};
 ghost use mathlib.Core.Bool.{true};
 ghost use Prim.Native.Nat.{_<_};
-ghost use Rattle.clock.specs.State.{inRange};
+ghost use Rattle.state.specs.State.{inRange};
 ghost use Rattle.clock.specs.Ticks.{ranOf};
 ghost use Rattle.clock.specs.Inner.{TurnOf};
 use crate::jump::jump;
 use crate::jump::jump_length;
-use crate::limits::MICROS_PER_SECOND;
-use crate::state::Clock;
 use crate::timer::overflow;
+use state::Clock;
+use state::MICROS_PER_SECOND;
 
 // The answer of many ticks: refusal 0 where the call was accepted, else its number in the table of refusals; how many ticks were
 // accepted; the refusal of the tick that ended them, or 0; and the clock after the accepted ones.

@@ -1,17 +1,17 @@
 ghost use mathlib.Core.Path.{_≡_};
 ghost use Rattle.clock.specs.Setting.{settingOf};
-use crate::limits::LAST_MICRO;
-use crate::limits::LAST_SECOND;
-use crate::limits::MAX_ERROR;
-use crate::limits::TIME_BAD;
-use crate::outcome::Outcome;
 use crate::rollover::adjustment_for;
-use crate::state::Clock;
-use crate::state::in_range;
-use crate::units::AskedMicros;
-use crate::units::Micros;
-use crate::units::OffsetUnits;
-use crate::units::PhaseUnits;
+use state::AskedMicros;
+use state::Clock;
+use state::LAST_MICRO;
+use state::LAST_SECOND;
+use state::MAX_ERROR;
+use state::Micros;
+use state::OffsetUnits;
+use state::Outcome;
+use state::PhaseUnits;
+use state::TIME_BAD;
+use state::in_range;
 
 // The clock set to a time; frequency, time constant and kind stay.
 pub fn set(c: Clock, seconds: u64, micros: AskedMicros) -> Outcome

@@ -2,11 +2,11 @@
 ghost use mathlib.Core.Path.{_≡_};
 ghost use Prim.Native.Nat.{_≤_};
 ghost use Rattle.clock.specs.Ticks.{catchUpOf, greatestCeiling, refusedWith, ticksOf};
-use crate::outcome::Outcome;
 use crate::run::CaughtUp;
 use crate::run::run;
-use crate::state::Clock;
-use crate::state::in_range;
+use state::Clock;
+use state::Outcome;
+use state::in_range;
 
 // The most ticks that a catch-up may be asked for.
 pub const MAX_CEILING: u64 = 65536;

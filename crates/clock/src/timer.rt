@@ -1,18 +1,18 @@
 ghost use mathlib.Core.Path.{_≡_};
 ghost use mathlib.Core.Bool.{true};
-ghost use Rattle.clock.specs.State.{inRange};
+ghost use Rattle.state.specs.State.{inRange};
 ghost use Rattle.clock.specs.Tick.{rollsOver, tickOf};
 ghost use Rattle.clock.specs.Inner.{advanceOf};
-use crate::device::device_of;
-use crate::limits::LAST_SECOND;
-use crate::limits::MICROS_PER_SECOND;
-use crate::limits::PHASE_PER_MICRO;
-use crate::outcome::Outcome;
 use crate::rollover::rollover;
-use crate::state::Clock;
-use crate::state::in_range;
-use crate::units::Micros;
-use crate::units::PhaseUnits;
+use state::Clock;
+use state::LAST_SECOND;
+use state::MICROS_PER_SECOND;
+use state::Micros;
+use state::Outcome;
+use state::PHASE_PER_MICRO;
+use state::PhaseUnits;
+use state::device_constants;
+use state::in_range;
 
 // The microseconds and the phase that a tick leads to, before a rollover takes a second off.
 pub(crate) struct Advance {
@@ -27,7 +27,9 @@ pub(crate) fn advance_of(c: Clock) -> Advance
     let sum = c.phase.0 + c.adjustment.0;
     let carry = sum / PHASE_PER_MICRO;
     Advance {
-        micros: Micros(((c.micros.0 + device_of(c.kind).tick.0) as i32 + carry) as u32),
+        micros: Micros(
+            ((c.micros.0 + device_constants(c.kind).device.tick.0) as i32 + carry) as u32,
+        ),
         phase: PhaseUnits(sum - carry * PHASE_PER_MICRO),
     }
 }

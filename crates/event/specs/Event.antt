@@ -3,8 +3,8 @@ use Rattle.clock.specs.Tick.{tickOf}
 use Rattle.clock.specs.Ticks.{catchUpOf}
 use Rattle.clock.specs.Setting.{settingOf}
 use Rattle.clock.specs.Reading.{readingOf, noReading}
-use Rattle.clock.specs.declared.state.Clock.{Clock}
-use Rattle.clock.specs.declared.outcome.Outcome.{Outcome}
+use Rattle.state.specs.declared.state.Clock.{Clock}
+use Rattle.state.specs.declared.outcome.Outcome.{Outcome}
 use Rattle.clock.specs.declared.run.CaughtUp.{CaughtUp}
 use Rattle.clock.specs.declared.reading.Told.{Told}
 use Rattle.request.specs.Request.{requestOf}

@@ -34,9 +34,9 @@ use denote.Triple.End.{Kepts, Fins}
 use denote.Triple.Entry.{Args, onEntry}
 use denote.Triple.Spec.{Meets}
 use denote.Triple.Walked.{Stays, stay-ref, stay-dropped, fitsOf, hasOf, AllGo, goes-ref, goes-dropped, walkOf, ends-at, walked, walk-meets}
-use Rattle.clock.specs.declared.state.Clock.{Clock}
-use Rattle.clock.proofs.state.Clock as T
-use Rattle.clock.proofs.state.Clock.Laws as T′
+use Rattle.state.specs.declared.state.Clock.{Clock}
+use Rattle.state.proofs.state.Clock as T
+use Rattle.state.proofs.state.Clock.Laws as T′
 
 -- the machine value of a clock, and that it is one
 abbrev pub value : Clock → Val

@@ -5,7 +5,7 @@ use Prim.Native.Nat.{ℕ, zero, suc}
 use lib.Dec.{eqb}
 use Rattle.clock.specs.Tick.{rollsOver, tickOf}
 use Rattle.clock.specs.Ticks.{catchUpOf, catchUpRefusal, ended, oneMore, ranOf, refusedWith}
-use Rattle.clock.specs.declared.state.Clock.{Clock}
+use Rattle.state.specs.declared.state.Clock.{Clock}
 use Rattle.clock.specs.declared.run.CaughtUp.{CaughtUp}
 use Rattle.heukelvos.specs.Lent.{Kept}
 

@@ -2,11 +2,11 @@
 use mathlib.Core.Path.{_≡_, _∙_}
 use mathlib.Core.Bool.{cond, true}
 use lib.Dec.{eqb}
-use Rattle.clock.specs.State.{inRange}
+use Rattle.state.specs.State.{inRange}
 use Rattle.clock.specs.Tick.{tickOf}
 use Rattle.clock.specs.Ticks.{ticksOf}
-use Rattle.clock.specs.declared.state.Clock.{Clock}
-use Rattle.clock.proofs.Ok.{ok-back}
+use Rattle.state.specs.declared.state.Clock.{Clock}
+use Rattle.state.proofs.Ok.{ok-back}
 use Rattle.clock.proofs.TickCases.{TickCase, out, last, plain, rolls, tickCase}
 use Rattle.clock.proofs.RunLaws.{ticked-in-range, ticks-none, ticks-one-more}
 

@@ -1,11 +1,11 @@
 // The calls by value: each is the call of its crate, for C.
 ghost use mathlib.Core.Path.{_≡_};
-ghost use Rattle.clock.specs.Fresh.{freshOf};
+ghost use Rattle.state.specs.Fresh.{freshOf};
 ghost use Rattle.clock.specs.Reading.{readingOf};
 ghost use Rattle.clock.specs.Setting.{settingOf};
-ghost use Rattle.clock.specs.State.{inRange};
+ghost use Rattle.state.specs.State.{inRange};
 ghost use Rattle.clock.specs.Tick.{tickOf};
-ghost use Rattle.clock.specs.Units.{askedMicros};
+ghost use Rattle.state.specs.Units.{askedMicros};
 ghost use Rattle.clock.specs.Ticks.{catchUpOf};
 ghost use Rattle.request.specs.Request.{requestOf};
 ghost use Rattle.label.specs.Writing.{writeRefusal, writtenTo};

@@ -5,7 +5,7 @@ use mathlib.Core.List.{List}
 use Prim.Native.Nat.{ℕ, suc, _%_}
 use lib.Dec.{eqb}
 use lib.IntN.{ℤ}
-use Rattle.clock.specs.Units.{askedMicros}
+use Rattle.state.specs.Units.{askedMicros}
 use Rattle.event.specs.declared.event.Call.the-variants.{Setting, Request, Reading}
 use Rattle.number.specs.Mapping.{unmapped}
 use Rattle.number.specs.Reading.{Found as Number, number, numberAt}

@@ -9,11 +9,11 @@ use borrow.Author.Tests.{eqb-true, eqb-false, eq-eqb, le-leb, ltb-true, ltb-fals
 use lib.Dec.{eqb, ltb}
 use lib.ListN.{length}
 use Rattle.integers.proofs.Ranges.{and-true}
-use Rattle.clock.specs.declared.state.Clock.{Clock}
-use Rattle.clock.specs.Device.{kind256, deviceOf}
-use Rattle.clock.specs.State.{inRange, freshClock, lastSecond, statusOop, statusBad}
-use Rattle.clock.proofs.Ok.{ok}
-use Rattle.clock.specs.Units.{secondsPerDay, lastSecondOfDay}
+use Rattle.state.specs.declared.state.Clock.{Clock}
+use Rattle.state.specs.Device.{kind256, deviceOf}
+use Rattle.state.specs.State.{inRange, freshClock, lastSecond, statusOop, statusBad}
+use Rattle.state.proofs.Ok.{ok}
+use Rattle.state.specs.Units.{secondsPerDay, lastSecondOfDay}
 use Rattle.calendar.specs.declared.Date.{Date}
 use Rattle.calendar.specs.declared.Found.{Found}
 use Rattle.calendar.specs.declared.Found.the-variants.{Day, NoDay}

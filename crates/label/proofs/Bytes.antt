@@ -9,8 +9,8 @@ use lib.Dec.{eqb}
 use lib.ListN.{length, drop, getD}
 use lib.Seq.{drop-cons, drop-length}
 use Rattle.integers.proofs.Ranges.{and-true}
-use Rattle.clock.specs.Units.{secondsPerDay, lastSecondOfDay}
-use Rattle.clock.specs.State.{lastSecond}
+use Rattle.state.specs.Units.{secondsPerDay, lastSecondOfDay}
+use Rattle.state.specs.State.{lastSecond}
 use Rattle.calendar.specs.declared.Date.{Date}
 use Rattle.calendar.specs.Calendar.{dateOf, days}
 use Rattle.calendar.proofs.Dates.{on, same-parts}

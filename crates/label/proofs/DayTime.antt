@@ -7,7 +7,7 @@ use native.Mathlib.Nat.{div-div-eq-div-mul}
 use borrow.Author.Tests.{eqb-true, eq-eqb, leb-false, lt-leb}
 use lib.Dec.{eqb, leb}
 use Rattle.integers.proofs.Ranges.{and-true}
-use Rattle.clock.specs.Units.{lastSecondOfDay}
+use Rattle.state.specs.Units.{lastSecondOfDay}
 use Rattle.label.specs.declared.fields.Time.{Time}
 use Rattle.label.specs.declared.fields.Time.the-variants.{At, NoTime}
 use Rattle.label.specs.Inner.{Alike, Shows, ShownBy, shown, unshown}

@@ -3,8 +3,8 @@ use mathlib.Core.Path.{_≡_}
 use Prim.Native.Nat.{ℕ, _*_, _-_, _/_, _%_, _≤_, _<_}
 use native.Mathlib.Omega.{arith}
 use native.Mathlib.Nat.{div-div-eq-div-mul}
-use Rattle.clock.specs.Units.{secondsPerDay}
-use Rattle.clock.specs.State.{lastSecond}
+use Rattle.state.specs.Units.{secondsPerDay}
+use Rattle.state.specs.State.{lastSecond}
 use Rattle.calendar.specs.declared.Date.{Date}
 use Rattle.calendar.specs.Calendar.{dateOf, days, firstYear}
 use Rattle.calendar.proofs.Dates.{Sound, sound, month-length}

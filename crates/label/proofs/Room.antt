@@ -7,8 +7,8 @@ use native.Mathlib.Omega.{arith}
 use borrow.Author.Tests.{eqb-true, ltb-false, lt-ltb, le-ltb}
 use lib.Dec.{eqb, ltb}
 use lib.ListN.{length, drop, length-take, length-drop, length-append}
-use Rattle.clock.specs.declared.state.Clock.{Clock}
-use Rattle.clock.specs.State.{inRange}
+use Rattle.state.specs.declared.state.Clock.{Clock}
+use Rattle.state.specs.State.{inRange}
 use Rattle.label.specs.Label.{labelSize, labelOf, isSixty, clockLabel}
 use Rattle.label.specs.Writing.{writeRefusal, writtenTo, Readable}
 

@@ -8,9 +8,9 @@ use Prim.Native.Nat.{ℕ, _+_, _/_, _<_}
 use native.Mathlib.Omega.{arith}
 use lib.ListN.{take, drop}
 use lib.Seq.{take-at}
-use Rattle.clock.specs.declared.state.Clock.{Clock}
-use Rattle.clock.specs.State.{lastSecond}
-use Rattle.clock.specs.Units.{secondsPerDay, lastSecondOfDay}
+use Rattle.state.specs.declared.state.Clock.{Clock}
+use Rattle.state.specs.State.{lastSecond}
+use Rattle.state.specs.Units.{secondsPerDay, lastSecondOfDay}
 use Rattle.calendar.proofs.Dates.{on, one-day}
 use Rattle.calendar.proofs.Closed.{date-right}
 use Rattle.label.specs.declared.Answer.{Answer}

@@ -5,7 +5,7 @@ use mathlib.Core.List.{List, [], _∷_, _++_}
 use Prim.Native.Nat.{ℕ, _+_, _*_, _-_, _/_, _%_, _≤_, _<_}
 use lib.Dec.{leb, eqb}
 use lib.ListN.{getD}
-use Rattle.clock.specs.Units.{secondsPerDay, lastSecondOfDay}
+use Rattle.state.specs.Units.{secondsPerDay, lastSecondOfDay}
 use Rattle.calendar.specs.declared.Date.{Date}
 use Rattle.label.specs.Label.{digitZero, hyphen, letterT, colon, letterZ, two, four, secondsPerMinute, minutesPerHour, secondsPerHour, insertedSecond}
 use Rattle.label.specs.declared.fields.Time.{Time}

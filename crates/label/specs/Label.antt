@@ -3,9 +3,9 @@ use mathlib.Core.Bool.{Bool, cond, _&&_}
 use mathlib.Core.List.{List, [], _∷_, _++_}
 use Prim.Native.Nat.{ℕ, _+_, _*_, _/_, _%_}
 use lib.Dec.{eqb}
-use Rattle.clock.specs.Units.{secondsPerDay, lastSecondOfDay}
-use Rattle.clock.specs.State.{statusOop}
-use Rattle.clock.specs.declared.state.Clock.{Clock}
+use Rattle.state.specs.Units.{secondsPerDay, lastSecondOfDay}
+use Rattle.state.specs.State.{statusOop}
+use Rattle.state.specs.declared.state.Clock.{Clock}
 use Rattle.calendar.specs.declared.Date.{Date}
 use Rattle.calendar.specs.Calendar.{dateOf}
 

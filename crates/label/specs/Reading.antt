@@ -3,8 +3,8 @@ use mathlib.Core.Path.{_≡_}
 use mathlib.Core.Bool.{true, false}
 use mathlib.Core.List.{List}
 use Prim.Native.Nat.{ℕ}
-use Rattle.clock.specs.declared.state.Clock.{Clock}
-use Rattle.clock.specs.State.{inRange}
+use Rattle.state.specs.declared.state.Clock.{Clock}
+use Rattle.state.specs.State.{inRange}
 use Rattle.label.specs.declared.Answer.{Answer}
 use Rattle.label.specs.Label.{isSixty, clockLabel}
 

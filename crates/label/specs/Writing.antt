@@ -5,9 +5,9 @@ use mathlib.Core.List.{List, _++_}
 use Prim.Native.Nat.{ℕ, _+_, _*_, _≤_, min}
 use lib.Dec.{eqb, ltb}
 use lib.ListN.{length, take, drop}
-use Rattle.clock.specs.declared.state.Clock.{Clock}
-use Rattle.clock.specs.State.{inRange}
-use Rattle.clock.specs.Refusal.{refuse}
+use Rattle.state.specs.declared.state.Clock.{Clock}
+use Rattle.state.specs.State.{inRange}
+use Rattle.state.specs.Refusal.{refuse}
 use Rattle.label.specs.Label.{labelSize, clockLabel}
 
 -- "a writer checks 1, then 14": 1 "a state field lies outside its range", 14 "lent buffer shorter than what is to be written"

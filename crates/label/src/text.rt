@@ -6,7 +6,7 @@ ghost use Prim.Native.Nat.{_/_, _%_, _≤_, _<_};
 ghost use lib.Dec.{eqb};
 ghost use lib.ListN.{length, drop, set};
 ghost use Rattle.calendar.specs.Calendar.{dateOf};
-ghost use Rattle.clock.specs.Units.{secondsPerDay, lastSecondOfDay};
+ghost use Rattle.state.specs.Units.{secondsPerDay, lastSecondOfDay};
 ghost use Rattle.label.specs.Label.{digit, two, labelSize, secondsPerMinute, minutesPerHour, secondsPerHour, hoursPerDay, labelOf};
 ghost use Rattle.label.specs.Inner.{dateText, timeText};
 use crate::units::MINUTES_PER_HOUR;

@@ -9,9 +9,9 @@ use lib.ListN.{length}
 use borrow.Author.Tests.{le-leb, lt-leb, le-ltb, leb-true, leb-false, ltb-true, ltb-false}
 use Rattle.clock.specs.Tick.{tickOf}
 use Rattle.clock.specs.Reading.{readingOf, shown}
-use Rattle.clock.specs.Device.{kind256}
-use Rattle.clock.specs.State.{inRange, freshClock}
-use Rattle.clock.specs.declared.state.Clock.{Clock}
+use Rattle.state.specs.Device.{kind256}
+use Rattle.state.specs.State.{inRange, freshClock}
+use Rattle.state.specs.declared.state.Clock.{Clock}
 use Rattle.event.specs.Event.{stepOf}
 use Rattle.event.specs.declared.event.Call.the-variants.{Reading}
 use Rattle.event.specs.declared.event.Event as call

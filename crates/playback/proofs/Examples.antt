@@ -3,8 +3,8 @@ use mathlib.Core.Path.{_≡_, refl}
 use mathlib.Core.List.{List, [], _∷_}
 use Prim.Native.Nat.{ℕ}
 use Rattle.calendar.specs.Calendar.{dateOf}
-use Rattle.clock.specs.Device.{deviceOf}
-use Rattle.clock.specs.State.{inRange}
+use Rattle.state.specs.Device.{deviceOf}
+use Rattle.state.specs.State.{inRange}
 use Rattle.clock.specs.Rollover.{rolledOver}
 use Rattle.clock.specs.Tick.{ticked, tickRefusal, tickOf}
 use Rattle.clock.specs.Reading.{readingRefusal, readingOf}

@@ -7,11 +7,11 @@ use native.Mathlib.Omega.{arith}
 use lib.Dec.{eqb}
 use lib.ListN.{length, drop, length-append}
 use borrow.Author.Tests.{eq-eqb, le-ltb}
-use Rattle.clock.specs.State.{inRange}
+use Rattle.state.specs.State.{inRange}
 use Rattle.clock.specs.Reading.{readingOf, readingRefusal}
-use Rattle.clock.specs.Refusal.{refuse}
-use Rattle.clock.specs.declared.state.Clock.{Clock}
-use Rattle.clock.proofs.Ok.{ok}
+use Rattle.state.specs.Refusal.{refuse}
+use Rattle.state.specs.declared.state.Clock.{Clock}
+use Rattle.state.proofs.Ok.{ok}
 use Rattle.event.specs.Event.{answerOf}
 use Rattle.label.specs.Label.{digit, isSixty, clockLabel}
 use Rattle.label.specs.Writing.{writeRefusal, writtenTo}

@@ -3,8 +3,8 @@ use mathlib.Core.Bool.{cond}
 use mathlib.Core.List.{List, []}
 use Prim.Native.Nat.{ℕ}
 use lib.Dec.{eqb}
-use Rattle.clock.specs.declared.state.Clock.{Clock}
-use Rattle.clock.specs.declared.outcome.Outcome.{Outcome}
+use Rattle.state.specs.declared.state.Clock.{Clock}
+use Rattle.state.specs.declared.outcome.Outcome.{Outcome}
 use Rattle.event.specs.Event.{answerOf}
 use Rattle.event.specs.declared.event.Call as call
 use Rattle.event.specs.declared.event.Call.the-variants.{Tick, Setting, Request, Reading}

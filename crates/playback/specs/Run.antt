@@ -4,9 +4,9 @@ use mathlib.Core.List.{List, [], _++_}
 use Prim.Native.Nat.{ℕ, zero, suc}
 use lib.Dec.{leb, ltb}
 use lib.ListN.{length}
-use Rattle.clock.specs.Device.{kind256}
-use Rattle.clock.specs.State.{freshClock}
-use Rattle.clock.specs.declared.state.Clock.{Clock}
+use Rattle.state.specs.Device.{kind256}
+use Rattle.state.specs.State.{freshClock}
+use Rattle.state.specs.declared.state.Clock.{Clock}
 use Rattle.history.specs.Event.{Found, found, refused, eventAt}
 use Rattle.playback.specs.Lines.{logLine}
 use Rattle.playback.specs.Event.{outcomeOf, lineOf}

@@ -4,7 +4,7 @@ ghost use mathlib.Core.Bool.{true};
 ghost use mathlib.Core.List.{_++_};
 ghost use Prim.Native.Nat.{_+_, _≤_, _<_};
 ghost use lib.ListN.{length};
-ghost use Rattle.clock.specs.State.{inRange};
+ghost use Rattle.state.specs.State.{inRange};
 ghost use Rattle.label.specs.Label.{digit as Label·digit};
 ghost use Rattle.playback.specs.Lines.{decimal, logLine, printLine};
 ghost use Rattle.playback.specs.Run.{longestHistory};

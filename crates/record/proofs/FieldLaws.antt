@@ -12,10 +12,10 @@ use Rattle.number.specs.declared.decode.Decoded.{Decoded}
 use Rattle.number.specs.declared.decode.Decoded.the-variants as D
 use Rattle.number.specs.Reading.{Found, number, refused, numberAt, told}
 use Rattle.number.proofs.Lists.{either}
-use Rattle.clock.specs.Device.{deviceOf}
-use Rattle.clock.specs.State.{phaseRange, offsetRange, frequencyRange, adjustmentRange}
-use Rattle.clock.specs.declared.device.Device.{Device}
-use Rattle.clock.proofs.DeviceLaws.{fits-least, fits-most}
+use Rattle.state.specs.Device.{deviceOf}
+use Rattle.state.specs.State.{phaseRange, offsetRange, frequencyRange, adjustmentRange}
+use Rattle.state.specs.declared.device.Device.{Device}
+use Rattle.state.proofs.DeviceLaws.{fits-least, fits-most}
 use Rattle.number.specs.Layout.{judgedBy, fieldAt, placeAt, suits, mappedRange}
 use Rattle.record.specs.Layout.{lastRange}
 use Rattle.record.specs.Inner.{toldField, upTo, betweenZ, mappedPhase, mappedOffset, mappedFrequency, lastMost}

@@ -16,8 +16,8 @@ use Rattle.number.specs.Mapping.{unmapped}
 use Rattle.number.proofs.Lists.{either}
 use Rattle.number.specs.Layout.{mappedRange, suits}
 use Rattle.number.proofs.Mapping.{even, odd}
-use Rattle.clock.specs.Device.{kindRange}
-use Rattle.clock.specs.State.{lastSecond, longestInterval, zeroUnlessFlag, phaseRange, offsetRange, frequencyRange}
+use Rattle.state.specs.Device.{kindRange}
+use Rattle.state.specs.State.{lastSecond, longestInterval, zeroUnlessFlag, phaseRange, offsetRange, frequencyRange}
 use Rattle.record.specs.Layout.{holdsKind, lastRange}
 use Rattle.record.specs.Inner.{upTo, betweenZ, mappedPhase, mappedOffset, mappedFrequency, lastMost}
 

@@ -21,12 +21,12 @@ use Rattle.number.proofs.Chain.{Ahead}
 use Rattle.number.proofs.Layouts.{Choice, picked, stands, chosen, allows, joined, allows-joined, Sized, sized, sized-end, choose, choose-picked, picked-allowed, most, no-longer, read-back, read-more, taken, Known, known, layout-exactly-when}
 use Rattle.number.proofs.Sizes.{bytes-last}
 use Rattle.number.proofs.Mapping.{unmapped-mapped, mapped-unmapped}
-use Rattle.clock.specs.Units.{micros, offsetUnits, phaseUnits, frequencyUnits, offsetUnitsPerMicro, phaseUnitsPerMicro}
-use Rattle.clock.specs.Device.{recorder256, kindRange, kind256, kind1024, deviceOf}
-use Rattle.clock.specs.State.{inRange, freshClock, secondRange, adjustmentRange, flagRange, intervalRange, zeroUnlessFlag, lastSecond, longestInterval, lastMicro, greatestOffset, greatestFrequency, greatestConstant, greatestError, statusBad}
-use Rattle.clock.specs.declared.state.Clock.{Clock}
-use Rattle.clock.proofs.DeviceLaws.{fits-least, fits-most}
-use Rattle.clock.proofs.Ok.{ok}
+use Rattle.state.specs.Units.{micros, offsetUnits, phaseUnits, frequencyUnits, offsetUnitsPerMicro, phaseUnitsPerMicro}
+use Rattle.state.specs.Device.{recorder256, kindRange, kind256, kind1024, deviceOf}
+use Rattle.state.specs.State.{inRange, freshClock, secondRange, adjustmentRange, flagRange, intervalRange, zeroUnlessFlag, lastSecond, longestInterval, lastMicro, greatestOffset, greatestFrequency, greatestConstant, greatestError, statusBad}
+use Rattle.state.specs.declared.state.Clock.{Clock}
+use Rattle.state.proofs.DeviceLaws.{fits-least, fits-most}
+use Rattle.state.proofs.Ok.{ok}
 use Rattle.record.specs.Layout.{newest, knownVersion, holdsKind, reftimeRange, countRange, lastRange, keptUpdate, recordLayout, placesIn, numbersIn, recordIn, recordOf}
 use Rattle.record.specs.Reading.{restored, readingOf, accepted, refusedWith}
 use Rattle.record.specs.Saving.{savingOf, bufferAfter}

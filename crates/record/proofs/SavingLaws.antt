@@ -10,8 +10,8 @@ use borrow.Author.Tests.{lt-ltb, le-ltb}
 use Rattle.number.specs.Writing.{answered, filled}
 use Rattle.number.proofs.Buffer.{answered-room, filled-there}
 use Rattle.number.proofs.Sizes.{sizes-most}
-use Rattle.clock.specs.State.{inRange}
-use Rattle.clock.specs.declared.state.Clock.{Clock}
+use Rattle.state.specs.State.{inRange}
+use Rattle.state.specs.declared.state.Clock.{Clock}
 use Rattle.number.specs.declared.encode.Written.{Written}
 use Rattle.record.specs.Layout.{numbersOf, recordIn, recordOf}
 use Rattle.record.specs.Saving.{savingRefusal, savingOf, bufferAfter, Saves}

@@ -6,9 +6,9 @@ use lib.Dec.{leb, eqb}
 use lib.Signed.{leZ}
 use Rattle.number.specs.Layout.{Layout, whole}
 use Rattle.number.specs.Reading.{Found, number, refused}
-use Rattle.clock.specs.Units.{offsetUnitsPerMicro, phaseUnitsPerMicro}
-use Rattle.clock.specs.State.{lastSecond, longestInterval, greatestOffset, greatestFrequency}
-use Rattle.clock.specs.declared.state.Clock.{Clock}
+use Rattle.state.specs.Units.{offsetUnitsPerMicro, phaseUnitsPerMicro}
+use Rattle.state.specs.State.{lastSecond, longestInterval, greatestOffset, greatestFrequency}
+use Rattle.state.specs.declared.state.Clock.{Clock}
 use Rattle.record.specs.Layout.{timeFields, loopFields, rateFields, updateFields, errorFields, clockOf}
 use Rattle.record.specs.declared.field.Field.{Field}
 use Rattle.record.specs.declared.field.Field.the-variants as F

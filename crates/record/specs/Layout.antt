@@ -10,10 +10,10 @@ use lib.Dec.{leb, eqb}
 use Rattle.number.specs.Form.{bytesOfAll}
 use Rattle.number.specs.Layout.{Layout, place, field, whole, mappedRange, written}
 use Rattle.number.specs.Mapping.{mapped, unmapped}
-use Rattle.clock.specs.Units.{micros, offsetUnits, phaseUnits, frequencyUnits}
-use Rattle.clock.specs.Device.{kindRange, deviceOf}
-use Rattle.clock.specs.State.{secondRange, microsRange, phaseRange, offsetRange, frequencyRange, adjustmentRange, constantRange, flagRange, intervalRange, zeroUnlessFlag, errorRange, statusRange}
-use Rattle.clock.specs.declared.state.Clock.{Clock}
+use Rattle.state.specs.Units.{micros, offsetUnits, phaseUnits, frequencyUnits}
+use Rattle.state.specs.Device.{kindRange, deviceOf}
+use Rattle.state.specs.State.{secondRange, microsRange, phaseRange, offsetRange, frequencyRange, adjustmentRange, constantRange, flagRange, intervalRange, zeroUnlessFlag, errorRange, statusRange}
+use Rattle.state.specs.declared.state.Clock.{Clock}
 use Rattle.record.specs.declared.groups.Head.{Head}
 use Rattle.record.specs.declared.groups.Time.{Time}
 use Rattle.record.specs.declared.groups.Loop.{Loop}

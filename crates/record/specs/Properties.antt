@@ -8,9 +8,9 @@ use Prim.Native.Nat.{ℕ, _<_, _≤_}
 use lib.ListN.{length, getD, take, drop}
 use Rattle.number.specs.Layout.{suits}
 use Rattle.number.specs.Stopping.{Stops}
-use Rattle.clock.specs.Device.{kindRange, kind256, kind1024}
-use Rattle.clock.specs.State.{inRange, freshClock, flagRange}
-use Rattle.clock.specs.declared.state.Clock.{Clock}
+use Rattle.state.specs.Device.{kindRange, kind256, kind1024}
+use Rattle.state.specs.State.{inRange, freshClock, flagRange}
+use Rattle.state.specs.declared.state.Clock.{Clock}
 use Rattle.record.specs.Layout.{newest, knownVersion, holdsKind, reftimeRange, lastRange, keptUpdate, recordIn, recordOf, recordLayout}
 use Rattle.record.specs.Reading.{readingOf, accepted, refusedWith}
 use Rattle.record.specs.Saving.{savingOf, bufferAfter}

@@ -3,9 +3,9 @@
 use mathlib.Core.List.{List}
 use Prim.Native.Nat.{ℕ}
 use Rattle.number.specs.Layout.{Outcome, got, failed, readFrom}
-use Rattle.clock.specs.Device.{kind256}
-use Rattle.clock.specs.State.{freshClock}
-use Rattle.clock.specs.declared.state.Clock.{Clock}
+use Rattle.state.specs.Device.{kind256}
+use Rattle.state.specs.State.{freshClock}
+use Rattle.state.specs.declared.state.Clock.{Clock}
 use Rattle.record.specs.Layout.{recordLayout}
 use Rattle.record.specs.declared.restore.Restored.{Restored}
 

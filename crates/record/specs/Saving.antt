@@ -6,9 +6,9 @@ use mathlib.Core.List.{List, _++_}
 use Prim.Native.Nat.{ℕ, _≤_}
 use lib.Dec.{ltb, eqb}
 use lib.ListN.{length, take, drop}
-use Rattle.clock.specs.State.{inRange}
-use Rattle.clock.specs.Refusal.{refuse}
-use Rattle.clock.specs.declared.state.Clock.{Clock}
+use Rattle.state.specs.State.{inRange}
+use Rattle.state.specs.Refusal.{refuse}
+use Rattle.state.specs.declared.state.Clock.{Clock}
 use Rattle.record.specs.Layout.{recordOf}
 use Rattle.record.specs.declared.save.Saved.{Saved}
 

@@ -2,7 +2,7 @@
 ghost use mathlib.Core.Path.{_≡_};
 ghost use Rattle.number.specs.Layout.{fieldAt, placeAt, mappedRange};
 ghost use Rattle.number.specs.Mapping.{unmapped};
-ghost use Rattle.clock.specs.Device.{kindRange};
+ghost use Rattle.state.specs.Device.{kindRange};
 ghost use Rattle.record.specs.Inner.{toldField, upTo, betweenZ};
 ghost use Rattle.record.specs.Layout.{knownVersion, holdsKind};
 use crate::layout::KIND_SINCE;

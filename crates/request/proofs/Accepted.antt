@@ -9,11 +9,11 @@ use borrow.Author.Tests.{ltb-false, not-false}
 use lib.IntN.{ℤ, pos, _*ℤ_}
 use Rattle.integers.proofs.Parts.{posPart, negPart, parts}
 use Rattle.integers.proofs.Ranges.{and-true, within-parts, between-parts}
-use Rattle.clock.specs.State.{inRange, within, strictlyWithin, greatestOffset, greatestFrequency, greatestConstant, greatestError, statusOk, statusBad}
-use Rattle.clock.specs.Units.{micros}
-use Rattle.clock.specs.declared.state.Clock.{Clock}
-use Rattle.clock.specs.declared.units.Micros.{Micros}
-use Rattle.clock.proofs.Ok.{Ok, ok}
+use Rattle.state.specs.State.{inRange, within, strictlyWithin, greatestOffset, greatestFrequency, greatestConstant, greatestError, statusOk, statusBad}
+use Rattle.state.specs.Units.{micros}
+use Rattle.state.specs.declared.state.Clock.{Clock}
+use Rattle.state.specs.declared.units.Micros.{Micros}
+use Rattle.state.proofs.Ok.{Ok, ok}
 use Rattle.request.specs.declared.request.Request.{Request}
 use Rattle.request.specs.Request.{selectsOffset, selectsFrequency, selectsMaxerror, selectsEsterror, selectsStatus, selectsConstant, modeAbove, offsetOutside, frequencyOutside, errorAbove, statusAbove, constantAbove, requestRefusal, frequencyWritten, statusWritten, constantWritten, clamp, frequencyGrown, writesBad, requested}
 use Rattle.request.proofs.GainLaws.{clamp-parts}

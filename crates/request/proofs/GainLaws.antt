@@ -11,9 +11,9 @@ use borrow.Author.Tests.{eqb-true}
 use mir.Syntax.{w32}
 use mir.Val.{SFits}
 use Rattle.integers.proofs.Parts.{posPart, negPart, parts, one-part, sfits-parts, ge-parts}
-use Rattle.clock.specs.State.{greatestFrequency}
-use Rattle.clock.specs.declared.state.Clock.{Clock}
-use Rattle.clock.proofs.Ok.{Ok}
+use Rattle.state.specs.State.{greatestFrequency}
+use Rattle.state.specs.declared.state.Clock.{Clock}
+use Rattle.state.proofs.Ok.{Ok}
 use Rattle.request.specs.Request.{interval, gainDivisor, gain, clamp}
 
 pub divisor-pos : (k : ℕ) → 0 < gainDivisor k

@@ -5,7 +5,7 @@ use Prim.Native.Nat.{ℕ, _<_}
 use native.Mathlib.Omega.{arith}
 use lib.Dec.{eqb}
 use borrow.Author.Tests.{eqb-true, eqb-false}
-use Rattle.clock.specs.declared.state.Clock.{Clock}
+use Rattle.state.specs.declared.state.Clock.{Clock}
 use Rattle.request.specs.Request.{requestRefusal, requested, requestOf}
 use Rattle.request.specs.declared.request.Request.{Request}
 use Rattle.request.proofs.Accepted.{Accepted, accepted}

@@ -4,12 +4,13 @@ use mathlib.Core.Bool.{Bool, _&&_, _||_, not, cond}
 use lib.Dec.{ltb, eqb}
 use lib.IntN.{ℤ, pos, negℤ, _+ℤ_, _*ℤ_}
 use lib.Signed.{quotZ, ltZ}
-use Rattle.clock.specs.Units.{micros, offsetUnits, frequencyUnits, offsetUnitsPerMicro}
-use Rattle.clock.specs.State.{inRange, within, strictlyWithin, greatestOffset, greatestFrequency, greatestConstant, greatestError, statusOk, statusBad, timeOf, whole}
-use Rattle.clock.specs.Refusal.{refuse, answer}
-use Rattle.clock.specs.declared.state.Clock.{Clock}
-use Rattle.clock.specs.declared.units.Micros.{Micros}
-use Rattle.clock.specs.declared.outcome.Outcome.{Outcome}
+use Rattle.state.specs.Units.{micros, offsetUnits, frequencyUnits, offsetUnitsPerMicro}
+use Rattle.state.specs.State.{inRange, within, strictlyWithin, greatestOffset, greatestFrequency, greatestConstant, greatestError, statusOk, statusBad, timeOf, whole}
+use Rattle.state.specs.Refusal.{refuse}
+use Rattle.clock.specs.Refusal.{answer}
+use Rattle.state.specs.declared.state.Clock.{Clock}
+use Rattle.state.specs.declared.units.Micros.{Micros}
+use Rattle.state.specs.declared.outcome.Outcome.{Outcome}
 use Rattle.request.specs.declared.request.ModeBits.{ModeBits}
 use Rattle.request.specs.declared.request.Request.{Request}
 

@@ -1,8 +1,8 @@
 ghost use mathlib.Core.Path.{_≡_};
 ghost use mathlib.Core.Bool.{true, cond};
 ghost use Prim.Native.Nat.{_≤_};
-ghost use Rattle.clock.specs.Units.{micros, offsetUnits, frequencyUnits};
-ghost use Rattle.clock.specs.State.{greatestError, statusBad};
+ghost use Rattle.state.specs.Units.{micros, offsetUnits, frequencyUnits};
+ghost use Rattle.state.specs.State.{greatestError, statusBad};
 ghost use Rattle.request.specs.Request.{requestRefusal, frequencyWritten, constantWritten, statusWritten, offsetAfter, frequencyAfter, statusAfter, intervalAfter, requested};
 use crate::gain::clamped_sum;
 use crate::gain::gain_of;

@@ -2,7 +2,7 @@
 use mathlib.Core.Path.{_≡_, refl, sym, _∙_, ap}
 use mathlib.Core.List.{List}
 use Prim.Native.Nat.{ℕ}
-use Rattle.clock.specs.Units.{askedMicros}
+use Rattle.state.specs.Units.{askedMicros}
 use Rattle.number.specs.Reading.{numberAt, told}
 use Rattle.number.specs.Sequence.{then}
 use Rattle.event.specs.declared.event.Call.the-variants.{Setting}

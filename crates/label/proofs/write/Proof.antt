@@ -2,7 +2,7 @@
 use mathlib.Core.Path.{sym, _∙_}
 use borrow.Author.Needs.{needs}
 use borrow.Author.Tests.{not-true, not-false, eq-eqb, ne-eqb}
-use Rattle.clock.specs.State.{statusOop}
+use Rattle.state.specs.State.{statusOop}
 use Rattle.label.proofs.Placed.{sixty}
 use Rattle.label.proofs.Room.{unsound, short, done}
 use Rattle.label.proofs.write.Statement.{statement}

@@ -1,8 +1,8 @@
 -- `clock::jump::jump`: each step fits its type, so that microseconds and phase are those of `jumpOf`.
 use Prim.Native.Nat.{_-_}
 use lib.Dec.{lit<}
+use Rattle.state.proofs.Ok.{Ok, ok}
 use Rattle.clock.specs.Inner.{Within}
-use Rattle.clock.proofs.Ok.{Ok, ok}
 use Rattle.clock.proofs.JumpLaws.{jumpReads, read-ticks, fits-passed, fits-together, fits-counted, wide-phase, wide-adjustment, fits-steps, fits-sums, fits-carries, fits-wholes, fits-left, fits-phase-left, fits-later, later-nonNeg, fits-micros-later}
 use borrow.Author.Needs.{needs}
 use Rattle.clock.proofs.jump.jump.Statement.{statement}
@@ -56,8 +56,8 @@ div-carry c =
 cast-t9 : tie.Need-cast-t9
 cast-t9 c = search needs
 
-device-of-requires : tie.Need-device-of-requires
-device-of-requires c κs = search needs
+device-constants-requires : tie.Need-device-constants-requires
+device-constants-requires c κs = search needs
 
 cast-t11 : tie.Need-cast-t11
 cast-t11 c = search needs
@@ -66,33 +66,33 @@ mul-t12 : tie.Need-mul-t12
 mul-t12 c =
     let d = c .before in
     let s = d .before .before .before .before .before .before in
-    rw (d .device-of .ensures) (fits-passed (s .args .c) (known s) (s .args .j) (within s))
+    rw (d .device-constants .ensures .0) (fits-passed (s .args .c) (known s) (s .args .j) (within s))
 
 add-t13 : tie.Need-add-t13
 add-t13 c =
     let d = c .before in
     let s = d .before .before .before .before .before .before in
-    rw (d .device-of .ensures) (fits-together (s .args .c) (known s) (s .args .j) (within s))
+    rw (d .device-constants .ensures .0) (fits-together (s .args .c) (known s) (s .args .j) (within s))
 
 cast-t8 : tie.Need-cast-t8
 cast-t8 c =
     let d = c .before in
     let s = d .before .before .before .before .before .before in
-    rw (d .device-of .ensures) (fits-counted (s .args .c) (known s) (s .args .j) (within s))
+    rw (d .device-constants .ensures .0) (fits-counted (s .args .c) (known s) (s .args .j) (within s))
 
 add-t5 : tie.Need-add-t5
 add-t5 c =
     let s = c .before .before .before .before .before .before .before in
     let k = known s in
     let w = within s in
-    simp (c .before .device-of .ensures, read-ticks (s .args .c) k (s .args .j) w, jumpReads) (fits-later (s .args .c) k (s .args .j) w)
+    simp (c .before .device-constants .ensures .0, read-ticks (s .args .c) k (s .args .j) w, jumpReads) (fits-later (s .args .c) k (s .args .j) w)
 
 cast-t14 : tie.Need-cast-t14
 cast-t14 c =
     let s = c .before .before .before .before .before .before .before in
     let k = known s in
     let w = within s in
-    simp (c .before .device-of .ensures, read-ticks (s .args .c) k (s .args .j) w, jumpReads) (later-nonNeg (s .args .c) k (s .args .j) w, fits-micros-later (s .args .c) k (s .args .j) w)
+    simp (c .before .device-constants .ensures .0, read-ticks (s .args .c) k (s .args .j) w, jumpReads) (later-nonNeg (s .args .c) k (s .args .j) w, fits-micros-later (s .args .c) k (s .args .j) w)
 
 cast-t7 : tie.Need-cast-t7
 cast-t7 c = search needs
@@ -123,7 +123,7 @@ returns c =
     let s = c .before .before .before .before .before .before .before in
     let k = known s in
     let w = within s in
-    simp (c .before .device-of .ensures, read-ticks (s .args .c) k (s .args .j) w, jumpReads)
+    simp (c .before .device-constants .ensures .0, read-ticks (s .args .c) k (s .args .j) w, jumpReads)
 
 pub jump-spec : {M : Type 1} → statement M
 jump-spec =
@@ -137,7 +137,7 @@ jump-spec =
     cast-carry
     div-carry
     cast-t9
-    device-of-requires
+    device-constants-requires
     cast-t11
     mul-t12
     add-t13

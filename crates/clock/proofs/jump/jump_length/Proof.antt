@@ -3,7 +3,7 @@ use Prim.Native.Nat.{ℕ, _+_, _-_, _*_, _/_, _≤_, _<_}
 use native.Mathlib.Nat.{mul-le-mul-left, mul-le-mul-right, mul-div-le}
 use native.Mathlib.Omega.{arith}
 use borrow.Author.Needs.{needs}
-use Rattle.clock.proofs.Ok.{ok}
+use Rattle.state.proofs.Ok.{ok}
 use Rattle.clock.proofs.jump.jump_length.Statement.{statement}
 use Rattle.clock.proofs.jump.jump_length.Tie as tie
 

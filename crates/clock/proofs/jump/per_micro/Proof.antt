@@ -1,7 +1,7 @@
 -- `clock::jump::per_micro`: so many times the most of a tick is no more than one, on either device.
 use native.Mathlib.Omega.{arith}
 use borrow.Author.Tests.{ne-eqb}
-use Rattle.clock.specs.Device.{deviceOf}
+use Rattle.state.specs.Device.{deviceOf}
 use Rattle.clock.proofs.jump.per_micro.Statement.{statement}
 use Rattle.clock.proofs.jump.per_micro.Tie as tie
 

@@ -2,7 +2,7 @@
 use borrow.Author.Needs.{needs}
 use mathlib.Core.Path.{ap}
 use native.Mathlib.Omega.{arith}
-use Rattle.clock.specs.Units.{micros}
+use Rattle.state.specs.Units.{micros}
 use Rattle.clock.proofs.rollover.maxerror_grown.Statement.{statement}
 use Rattle.clock.proofs.rollover.maxerror_grown.Tie as tie
 

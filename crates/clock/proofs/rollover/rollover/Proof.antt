@@ -2,8 +2,8 @@
 use borrow.Author.Needs.{needs}
 use mir.Facts.{toZ-ofZ}
 use Rattle.integers.proofs.Ranges.{parts-within}
+use Rattle.state.proofs.Ok.{Ok, ok}
 use Rattle.clock.specs.Rollover.{share, rolledOver}
-use Rattle.clock.proofs.Ok.{Ok, ok}
 use Rattle.clock.proofs.RollLaws.{fits-offset, fits-share-of, fits-rest, share-parts}
 use Rattle.clock.proofs.rollover.rollover.Statement.{statement}
 use Rattle.clock.proofs.rollover.rollover.Tie as tie

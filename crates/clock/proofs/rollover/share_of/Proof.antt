@@ -1,6 +1,6 @@
 -- `clock::rollover::share_of`: the share: the quotient fits 32 bits, and its divisor is not 0.
 use mir.Facts.{toZ-ofZ}
-use Rattle.clock.proofs.Ok.{ok}
+use Rattle.state.proofs.Ok.{ok}
 use Rattle.clock.proofs.RollLaws.{fits-offset, fits-share-of, fits-divisor, divisor-pos}
 use Rattle.clock.proofs.rollover.share_of.Statement.{statement}
 use Rattle.clock.proofs.rollover.share_of.Tie as tie

@@ -4,7 +4,7 @@ use mathlib.Core.Path.{_≡_, sym, _∙_}
 use mathlib.Core.Bool.{true}
 use Prim.Native.Nat.{_+_, _-_, _≤_}
 use native.Mathlib.Omega.{arith}
-use Rattle.clock.specs.State.{inRange}
+use Rattle.state.specs.State.{inRange}
 use Rattle.clock.specs.Ticks.{ranOf}
 use Rattle.clock.specs.Inner.{adds}
 use Rattle.clock.proofs.RunLaws.{adds-none, run-ends, run-goes-on, run-none, turn-some}

@@ -6,10 +6,10 @@ use native.Mathlib.Nat.{mul-le-mul-left}
 use native.Mathlib.Omega.{arith}
 use borrow.Author.Needs.{needs}
 use borrow.Author.Tests.{le-leb}
-use Rattle.clock.specs.Device.{deviceOf}
+use Rattle.state.specs.Device.{deviceOf}
+use Rattle.state.specs.declared.state.Clock.{Clock}
 use Rattle.clock.specs.Tick.{moved, rollsOver}
 use Rattle.clock.specs.Inner.{Within, advanceOf, mostOfATick}
-use Rattle.clock.specs.declared.state.Clock.{Clock}
 use Rattle.clock.proofs.RunLaws.{stays-turn, before-in-range, before-advance, rolled-turn, refused-turn}
 use Rattle.clock.proofs.run.take_turn.Statement.{statement}
 use Rattle.clock.proofs.run.take_turn.Tie as tie

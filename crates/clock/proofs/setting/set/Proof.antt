@@ -7,9 +7,9 @@ use Prim.Native.Nat.{_≤_}
 use native.Mathlib.Omega.{arith}
 use lib.Dec.{leb}
 use Rattle.integers.proofs.Ranges.{and-true, parts-within}
-use Rattle.clock.specs.State.{inRange, lastSecond}
+use Rattle.state.specs.State.{inRange, lastSecond}
+use Rattle.state.proofs.Ok.{ok}
 use Rattle.clock.specs.Setting.{settable, settingRefusal, settingOf}
-use Rattle.clock.proofs.Ok.{ok}
 use Rattle.clock.proofs.setting.set.Statement.{statement}
 use Rattle.clock.proofs.setting.set.Tie as tie
 

@@ -4,7 +4,7 @@ use mathlib.Core.Bool.{true}
 use native.Mathlib.Omega.{arith}
 use borrow.Author.Needs.{needs}
 use borrow.Author.Tests.{not-true, not-false, lt-ltb, le-ltb}
-use Rattle.clock.specs.State.{inRange}
+use Rattle.state.specs.State.{inRange}
 use Rattle.clock.specs.Ticks.{ranOf, refusedWith, catchUpOf}
 use Rattle.clock.proofs.RunLaws.{catch-up-most}
 use Rattle.clock.proofs.ticks.catch_up.Statement.{statement}

@@ -2,8 +2,8 @@
 use borrow.Author.Tests.{leb-true, eq-eqb, ne-eqb}
 use Prim.Native.Nat.{_-_}
 use native.Mathlib.Omega.{arith}
+use Rattle.state.proofs.Ok.{ok, ok-back}
 use Rattle.clock.specs.Tick.{tickOf, tickRefusal, ticked, advanced, microsGrown}
-use Rattle.clock.proofs.Ok.{ok, ok-back}
 use Rattle.clock.proofs.TickLaws.{advanced-ok, grown-most}
 use Rattle.clock.proofs.timer.overflow.Statement.{statement}
 use Rattle.clock.proofs.timer.overflow.Tie as tie

@@ -3,7 +3,7 @@ use borrow.Author.Needs.{needs}
 use borrow.Author.Tests.{not-true, not-false, le-leb, lt-leb}
 use mathlib.Core.Bool.{true, false}
 use mathlib.Core.Path.{_≡_, sym, _∙_}
-use Rattle.clock.specs.State.{inRange}
+use Rattle.state.specs.State.{inRange}
 use Rattle.clock.specs.Tick.{tickOf, tickRefusal, ticked, rollsOver}
 use Rattle.clock.proofs.timer.tick.Statement.{statement}
 use Rattle.clock.proofs.timer.tick.Tie as tie

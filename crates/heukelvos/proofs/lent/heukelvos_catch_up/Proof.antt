@@ -39,12 +39,12 @@ use denote.Triple.Table.{entered, cited}
 use denote.Triple.End.{Kepts}
 use denote.Triple.Clauses.{ensured, lasts}
 use Rattle.clock.specs.Ticks.{catchUpOf}
-use Rattle.clock.specs.declared.state.Clock.{Clock}
+use Rattle.state.specs.declared.state.Clock.{Clock}
 use Rattle.heukelvos.specs.Lent.{parted}
 use Rattle.heukelvos.specs.declared.lent.Counted.{Counted}
 use Rattle.heukelvos.specs.declared.lent.Parted.{Parted}
-use Rattle.clock.proofs.state.Clock as T
-use Rattle.clock.proofs.state.Clock.Laws as T′
+use Rattle.state.proofs.state.Clock as T
+use Rattle.state.proofs.state.Clock.Laws as T′
 use Rattle.heukelvos.proofs.lent.Counted as N
 use Rattle.heukelvos.proofs.lent.Counted.Laws as N′
 use Rattle.heukelvos.proofs.lent.Parted as R

@@ -36,12 +36,12 @@ use denote.Triple.Spec.{Meets, tripleOf}
 use denote.Triple.Table.{entered, cited}
 use denote.Triple.Clauses.{ensured, lasts}
 use Rattle.clock.specs.Tick.{tickOf}
-use Rattle.clock.specs.declared.state.Clock.{Clock}
-use Rattle.clock.specs.declared.outcome.Outcome.{Outcome}
-use Rattle.clock.proofs.state.Clock as T
-use Rattle.clock.proofs.state.Clock.Laws as T′
-use Rattle.clock.proofs.outcome.Outcome as R
-use Rattle.clock.proofs.outcome.Outcome.Laws as R′
+use Rattle.state.specs.declared.state.Clock.{Clock}
+use Rattle.state.specs.declared.outcome.Outcome.{Outcome}
+use Rattle.state.proofs.state.Clock as T
+use Rattle.state.proofs.state.Clock.Laws as T′
+use Rattle.state.proofs.outcome.Outcome as R
+use Rattle.state.proofs.outcome.Outcome.Laws as R′
 use Rattle.clock.proofs.tick as tick
 use Rattle.clock.proofs.tick.Symbol as tick-def
 use Rattle.clock.proofs.tick.Symbol.{name as #tick}

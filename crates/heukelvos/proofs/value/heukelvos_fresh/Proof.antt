@@ -3,7 +3,7 @@ use borrow.Author.Needs.{needs}
 use borrow.Author.Tests.{lt-leb}
 use mathlib.Core.Path.{_∙_}
 use native.Mathlib.Omega.{arith}
-use Rattle.clock.specs.Fresh.{freshOf}
+use Rattle.state.specs.Fresh.{freshOf}
 use Rattle.heukelvos.proofs.value.heukelvos_fresh.Statement.{statement}
 use Rattle.heukelvos.proofs.value.heukelvos_fresh.Tie as tie
 

@@ -3,7 +3,7 @@ use Prim.Native.Nat.{_/_, _%_}
 use borrow.Author.Needs.{needs}
 use lib.ListN.{drop}
 use lib.Seq.{drop-drop}
-use Rattle.clock.specs.Units.{secondsPerDay}
+use Rattle.state.specs.Units.{secondsPerDay}
 use Rattle.calendar.specs.Calendar.{dateOf}
 use Rattle.label.specs.Label.{labelOf, secondsPerMinute, minutesPerHour, hoursPerDay, secondsPerHour}
 use Rattle.label.specs.Inner.{dateText, timeText}

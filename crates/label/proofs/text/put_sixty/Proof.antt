@@ -5,7 +5,7 @@ use native.Mathlib.Omega.{arith}
 use borrow.Author.Needs.{needs}
 use borrow.Author.Tests.{eq-eqb, ne-eqb}
 use lib.ListN.{length-set}
-use Rattle.clock.specs.Units.{secondsPerDay, lastSecondOfDay}
+use Rattle.state.specs.Units.{secondsPerDay, lastSecondOfDay}
 use Rattle.label.proofs.text.put_sixty.Statement.{statement}
 use Rattle.label.proofs.text.put_sixty.Tie as tie
 

@@ -1,7 +1,7 @@
 -- `playback::run_event` meets its contract: many ticks with the line of their refusal, or a call.
 use mathlib.Core.Path.{_∙_, ap}
 use native.Mathlib.Omega.{arith}
-use Rattle.clock.specs.declared.outcome.Outcome.{Outcome}
+use Rattle.state.specs.declared.outcome.Outcome.{Outcome}
 use Rattle.playback.specs.Event.{outcomeOf}
 use Rattle.playback.specs.Inner.{refusalLine}
 use Rattle.playback.proofs.Buffers.{puts-as}

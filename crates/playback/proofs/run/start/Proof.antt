@@ -1,6 +1,6 @@
 -- `playback::start` meets its contract: a run starts at the first byte, on a fresh clock of kind 0.
 use borrow.Author.Needs.{needs}
-use Rattle.clock.specs.Fresh.{freshOf}
+use Rattle.state.specs.Fresh.{freshOf}
 use Rattle.playback.proofs.run.start.Statement.{statement}
 use Rattle.playback.proofs.run.start.Tie as tie
 

@@ -7,9 +7,9 @@ use Prim.Native.Nat.{ℕ}
 use lib.Dec.{lit<}
 use Rattle.number.specs.Layout.{fieldAt, mappedRange, readFrom}
 use Rattle.number.proofs.Layouts.{AtField, field-went, field-stopped}
-use Rattle.clock.specs.Device.{deviceOf}
-use Rattle.clock.specs.State.{adjustmentRange}
-use Rattle.clock.specs.declared.device.Constants.{Constants}
+use Rattle.state.specs.Device.{deviceOf}
+use Rattle.state.specs.State.{adjustmentRange}
+use Rattle.state.specs.declared.device.Constants.{Constants}
 use Rattle.record.specs.Layout.{rateFields}
 use Rattle.record.specs.Reading.{restored}
 use Rattle.record.specs.Inner.{toldField, upTo, fromRate, fromUpdate}

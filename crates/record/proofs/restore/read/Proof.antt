@@ -3,7 +3,7 @@ use mathlib.Core.Path.{_≡_, refl, sym, _∙_, ap}
 use mathlib.Core.List.{List}
 use Prim.Native.Nat.{ℕ}
 use lib.Dec.{lit<}
-use Rattle.clock.specs.Device.{kindRange}
+use Rattle.state.specs.Device.{kindRange}
 use Rattle.number.specs.Layout.{readFrom}
 use Rattle.number.proofs.Layouts.{AtField, field-went, field-stopped}
 use Rattle.record.specs.Layout.{holdsKind, headFields, recordLayout}

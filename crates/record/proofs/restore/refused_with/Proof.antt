@@ -1,5 +1,5 @@
 -- `record::refused_with` meets its contract: the fresh clock of kind 0 beside the number.
-use Rattle.clock.specs.Fresh.{freshOf}
+use Rattle.state.specs.Fresh.{freshOf}
 use Rattle.record.proofs.restore.refused_with.Statement.{statement}
 use Rattle.record.proofs.restore.refused_with.Tie as tie
 

@@ -7,7 +7,7 @@ use native.Mathlib.Omega.{arith}
 use Rattle.number.specs.Form.{bytesOfAll}
 use Rattle.number.specs.Layout.{written}
 use Rattle.number.specs.Writing.{answered, filled}
-use Rattle.clock.specs.State.{inRange}
+use Rattle.state.specs.State.{inRange}
 use Rattle.record.specs.Layout.{recordLayout, placesIn, numbersIn, recordIn, recordOf}
 use Rattle.record.proofs.SavingLaws.{Drafted, drafted, copied, out-of-range, too-short, stored}
 use Rattle.record.proofs.save.write.Statement.{statement}

@@ -3,7 +3,7 @@ use borrow.Author.Needs.{needs}
 use borrow.Author.Tests.{not-true, not-false, lt-ltb, le-ltb}
 use mathlib.Core.Bool.{true, false}
 use mathlib.Core.Path.{_≡_, sym, _∙_}
-use Rattle.clock.specs.State.{inRange}
+use Rattle.state.specs.State.{inRange}
 use Rattle.request.specs.Request.{modeAbove, offsetOutside, frequencyOutside, maxerrorAbove, esterrorAbove, statusAbove, constantAbove, requestRefusal}
 use Rattle.request.proofs.refusal.refusal_of.Statement.{statement}
 use Rattle.request.proofs.refusal.refusal_of.Tie as tie
