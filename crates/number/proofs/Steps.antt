@@ -1,21 +1,30 @@
 -- What stands at a place, by the byte there: one law for each case of the first byte (`first-..`) and of one that follows a byte that
 -- says more (`later-..`).
-use mathlib.Core.Path.{_≡_, refl, _∙_, ap}
+use mathlib.Core.Path.{_≡_, refl, sym, _∙_, ap}
 use mathlib.Core.Bool.{Bool, true, false, cond}
 use mathlib.Core.List.{List, _∷_}
 use Prim.Native.Nat.{ℕ, suc, _+_, _*_, _%_, _<_, _≤_}
+use native.Mathlib.Nat.{mul-add, mul-assoc, add-assoc}
 use native.Mathlib.Omega.{arith}
 use lib.Dec.{leb, eqb, leb·suc-suc, leb·suc-zero, leb·zero}
 use lib.ListN.{length, getD, take, drop, drop-of-length-le}
 use borrow.Author.Tests.{le-leb, lt-leb, lt-ltb, eq-eqb, ne-eqb}
 use Rattle.number.specs.Reading.{Found, number, refused, leadingMore, valueOf, judged, numberAt}
-use Rattle.number.specs.Inner.{judgedLater, laterAt}
+use Rattle.number.specs.Inner.{judgedLater, laterAt, onto}
 use Rattle.number.proofs.Lists.{opened}
 
 -- a byte that says more, before what the rest gives
 abbrev pub before : ℕ → Found → Found
 before b (number v k) = number (b % 128 + 128 * v) k
 before b (refused n) = refused n
+
+-- a byte that says more, on top of what was read
+pub onto-before : (low unit b : ℕ) (x : Found) → onto low unit (before b x) ≡ onto (low + unit * (b % 128)) (unit * 128) x
+onto-before low unit b (number v k) =
+    ap (λ (m : ℕ). number m k)
+    (ap (λ (m : ℕ). low + m) (mul-add unit (b % 128) (128 * v)) ∙ sym (add-assoc low (unit * (b % 128)) (unit * (128 * v)))
+    ∙ ap (λ (m : ℕ). low + unit * (b % 128) + m) (sym (mul-assoc unit 128 v)))
+onto-before low unit b (refused n) = refl
 
 -- no refusal is a number
 pub never : {X : Type 0} {d : Found} {r v next : ℕ} → d ≡ refused r → d ≡ number v next → X

@@ -10,10 +10,14 @@ use crate::form::MORE;
 // The least byte that says that more follows.
 const SAYS_MORE: u64 = MORE as u64;
 
-// What a unit of the second group is worth, and of the third.
+// What a unit of each group after the first is worth.
 const SECOND_GROUP: u64 = GROUP as u64;
 
 const THIRD_GROUP: u64 = SECOND_GROUP * SECOND_GROUP;
+
+const FOURTH_GROUP: u64 = SECOND_GROUP * THIRD_GROUP;
+
+const FIFTH_GROUP: u64 = SECOND_GROUP * FOURTH_GROUP;
 
 // The top bits of two bytes that say more.
 const TOP_BITS: u64 = SAYS_MORE + SECOND_GROUP * SAYS_MORE;
@@ -47,7 +51,7 @@ pub fn read(bytes: &[u8], at: usize) -> Decoded
     }
     let p = at + 1;
     if n <= p {
-        return Decoded::Refused(10);
+        return Decoded::Refused(10); // one byte, which says that more follows
     }
     let b1 = wide(bytes[p]);
     if SAYS_MORE <= b1 {
@@ -68,30 +72,37 @@ fn read_long(bytes: &[u8], at: usize, low: u64) -> Decoded
     ensures { λ r. ⌜ told r ≡ onto low (group * group) (laterAt 3 (now (bytes .entry)) at) ⌝ }
 {
     let n = bytes.len();
-    let mut sum = low;
-    let mut scale: u64 = THIRD_GROUP;
-    let mut p = at;
-    let mut left: u64 = 3;
-    while 0 < left {
+    if n <= at {
+        return Decoded::Refused(10);
+    }
+    let mut last = wide(bytes[at]);
+    let mut sum = low + THIRD_GROUP * last;
+    let mut p = at + 1;
+    if SAYS_MORE <= last {
         if n <= p {
             return Decoded::Refused(10);
         }
-        let b = wide(bytes[p]);
-        sum = sum + scale * b;
+        last = wide(bytes[p]);
+        // The top bit of a byte is worth a unit of the next group, and none of the number.
+        sum = sum + FOURTH_GROUP * last - FOURTH_GROUP;
         p = p + 1;
-        if b < SAYS_MORE {
-            if b == 0 {
+        if SAYS_MORE <= last {
+            if n <= p {
+                return Decoded::Refused(10);
+            }
+            last = wide(bytes[p]);
+            sum = sum + FIFTH_GROUP * last - FIFTH_GROUP;
+            p = p + 1;
+            if SAYS_MORE <= last {
                 return Decoded::Refused(11);
             }
-            return Decoded::Value {
-                value: sum,
-                next: p,
-            };
         }
-        scale = scale * SECOND_GROUP;
-        // The byte's top bit is none of the number.
-        sum = sum - scale;
-        left = left - 1;
     }
-    Decoded::Refused(11)
+    if last == 0 {
+        return Decoded::Refused(11);
+    }
+    Decoded::Value {
+        value: sum,
+        next: p,
+    }
 }

@@ -1,156 +1,162 @@
--- `number::read_long` meets its contract. The loop's invariant: what is still to be read, on top of the sum, is what the call owes;
--- the scale and the bytes left make up 2^35, so nothing wraps. The measure is the bytes left.
+-- `number::read_long` meets its contract: each refusal by the laws of the bytes that were read on the way there, and where the three ways
+-- to a last byte meet, one law for all of them.
 use mathlib.Core.Path.{_≡_, refl, sym, _∙_, ap}
+use mathlib.Core.Bool.{cond}
+use mathlib.Core.Logic.{⊎-elim}
 use mathlib.Core.List.{List}
-use Prim.Native.Nat.{ℕ, zero, suc, _+_, _*_, _-_, _%_, _^_, _<_, _≤_}
-use native.Mathlib.Nat.{mul-add, mul-assoc, add-assoc, pow-succ', one-le-pow, le-mul-of-pos-right, mul-le-mul-left}
+use Prim.Native.Nat.{ℕ, zero, suc, _+_, _*_, _%_, _<_, _≤_}
 use native.Mathlib.Omega.{arith}
+use lib.Dec.{eqb}
+use lib.ListN.{length, getD}
 use borrow.Author.Needs.{needs}
-use Rattle.number.specs.Form.{limit}
+use borrow.Author.Tests.{eq-eqb, ne-eqb}
 use Rattle.number.specs.Reading.{Found, number, refused}
 use Rattle.number.specs.Inner.{laterAt, onto}
-use Rattle.number.proofs.Steps.{before, later-none, later-zero, later-last, later-more, later-no-more}
+use Rattle.number.proofs.Steps.{onto-before, later-none, later-zero, later-last, later-more, later-no-more}
 use Rattle.number.proofs.decode.read_long.Statement.{statement}
 use Rattle.number.proofs.decode.read_long.Tie as tie
 
--- a byte that says more, on top of what was read
-onto-before : (sum scale b : ℕ) (x : Found) → onto sum scale (before b x) ≡ onto (sum + scale * (b % 128)) (scale * 128) x
-onto-before sum scale b (number v k) =
-    ap (λ (m : ℕ). number m k)
-    (ap (λ (m : ℕ). sum + m) (mul-add scale (b % 128) (128 * v)) ∙ sym (add-assoc sum (scale * (b % 128)) (scale * (128 * v)))
-    ∙ ap (λ (m : ℕ). sum + scale * (b % 128) + m) (sym (mul-assoc scale 128 v)))
-onto-before sum scale b (refused n) = refl
+-- what a last byte ends: a value that needs it, and the place after it
+abbrev ended : ℕ → ℕ → ℕ → Found
+ended b value next = cond (eqb b 0) (refused 11) (number value next)
 
--- where bytes are left, there is a first of them
-some-left : (s : List ℕ) (p left : ℕ) → 0 < left → laterAt left s p ≡ laterAt (suc (left - 1)) s p
-some-left s p left h = ap (λ (f : ℕ). laterAt f s p) (omega arith)
+-- ---- the byte at a place, on top of what was read before it
 
-none-left : (s : List ℕ) (p left : ℕ) → left ≤ 0 → laterAt left s p ≡ refused 11
-none-left s p left h = ap (λ (f : ℕ). laterAt f s p) (omega arith) ∙ later-no-more s p
+more : (low unit f : ℕ) (s : List ℕ) (at b : ℕ) → at < length s → b ≡ getD s at 0 → 128 ≤ b
+    → onto low unit (laterAt (suc f) s at) ≡ onto (low + unit * (b % 128)) (unit * 128) (laterAt f s (at + 1))
+more low unit f s at b h e l = ap (onto low unit) (later-more f s at b h e l) ∙ onto-before low unit b (laterAt f s (at + 1))
 
--- the scale, while bytes may still be read
-scale-small : (left scale : ℕ) → 0 < left → scale * 128 ^ left ≡ limit → scale ≤ 2 ^ 28
-scale-small zero scale h e = absurd (omega arith)
-scale-small (suc f) scale h e =
-    let w : scale * 128 ^ suc f ≡ scale * 128 * 128 ^ f = ap (λ (m : ℕ). scale * m) (pow-succ' 128 f) ∙ sym (mul-assoc scale 128 (128 ^ f)) in
-    let p : scale * 128 ≤ scale * 128 * 128 ^ f = le-mul-of-pos-right (scale * 128) (one-le-pow f 128 (omega arith)) in
-    omega arith
+last : (low unit f : ℕ) (s : List ℕ) (at b : ℕ) → at < length s → b ≡ getD s at 0 → b < 128
+    → onto low unit (laterAt (suc f) s at) ≡ ended b (low + unit * b) (at + 1)
+last low unit f s at zero h e l = ap (onto low unit) (later-zero f s at 0 h e refl)
+last low unit f s at (suc b) h e l =
+    let z : suc b ≡ 0 → ⊥ = λ q. omega arith in
+    ap (onto low unit) (later-last f s at (suc b) h e l z) ∙ simp (ne-eqb (suc b) 0 z)
 
-scale-next : (left scale : ℕ) → 0 < left → scale * 128 ^ left ≡ limit → scale * 128 * 128 ^ (left - 1) ≡ limit
-scale-next zero scale h e = absurd (omega arith)
-scale-next (suc f) scale h e =
-    mul-assoc scale 128 (128 ^ (suc f - 1)) ∙ ap (λ (k : ℕ). scale * (128 * 128 ^ k)) (omega arith) ∙ ap (λ (m : ℕ). scale * m) (sym (pow-succ' 128 f)) ∙ e
+-- ---- the third byte says more; so does the fourth
 
--- a group, scaled
-scaled : (scale x : ℕ) → x < 128 → scale * x ≤ scale * 127
-scaled scale x h = mul-le-mul-left scale (omega arith)
+module _ (c : tie.Then2) where
+  after-third : let a = c .before .before .before .before .before .args in
+      let b = c .before .wide .result in
+      onto (a .low) 16384 (laterAt 3 (a .bytes .now) (a .at)) ≡ onto (a .low + 16384 * (b % 128)) 2097152 (laterAt 2 (a .bytes .now) (a .at + 1))
+  after-third = let w = c .before in more _ _ _ _ _ (w .wide .result) (w .before .before .if1 .left) (w .wide .ensures .0) (c .if2 .taken)
 
--- a byte that says more, as its top bit and its group
-group : (scale b : ℕ) → 128 ≤ b → b < 256 → scale * b ≡ scale * 128 + scale * (b % 128)
-group scale b h l = ap (λ (m : ℕ). scale * m) (omega arith) ∙ mul-add scale 128 (b % 128)
+module _ (c : tie.Then4) where
+  after-fourth : let t = c .before .before .before .before in
+      let a = t .before .before .before .before .before .args in
+      let low = a .low + 16384 * (t .before .wide .result % 128) + 2097152 * (c .before .wide2 .result % 128) in
+      onto (a .low) 16384 (laterAt 3 (a .bytes .now) (a .at)) ≡ onto low 268435456 (laterAt 1 (a .bytes .now) (a .at + 1 + 1))
+  after-fourth =
+      let w = c .before in
+      after-third (w .before .before .before)
+      ∙ more _ _ _ _ _ (w .wide2 .result) (w .before .before .if3 .left) (w .wide2 .ensures .0) (c .if4 .taken)
 
-abbrev Inv-loop : tie.InvT-loop
-Inv-loop s at low n sum₀ scale₀ p₀ left₀ sum scale p left =
-    (onto low 16384 (laterAt 3 s at) ≡ onto sum scale (laterAt left s p)) × ((scale * 128 ^ left ≡ limit) × (sum < scale))
+-- ---- where the ways to a last byte meet
 
-abbrev μ-loop : tie.MeasureT-loop
-μ-loop s at low n sum₀ scale₀ p₀ left₀ sum scale p left = left
+same : {b b′ v v′ k k′ : ℕ} → b ≡ b′ → v ≡ v′ → k ≡ k′ → ended b v k ≡ ended b′ v′ k′
+same p q r = cc
 
--- ---- where a byte was read
+module _ (j : tie.Joined2) where
+  met : let a = j .before .before .before .before .before .args in
+      onto (a .low) 16384 (laterAt 3 (a .bytes .now) (a .at)) ≡ ended (j .if2 .last) (j .if2 .sum) (j .if2 .p)
+  met =
+      let w = j .before in
+      ⊎-elim
+      (λ x.
+      after-fourth record {
+        before = record {
+          before = record { before = record { before = record { before = w; if2 = x .0 }; if3 = x .1 }; shared-slice-known3 = x .2 };
+          wide2 = x .3;
+        };
+        if4 = x .4;
+      }
+      ∙ last _ _ _ _ _ (x .7 .result) (x .5 .left) (x .7 .ensures .0) (x .8 .left)
+      ∙ same (sym (x .9)) (omega (arith, x .10, x .0 .taken, w .wide .ensures .1, x .4 .taken, x .3 .ensures .1)) (sym (x .11)))
+      (⊎-elim
+      (λ x.
+      after-third record { before = w; if2 = x .0 }
+      ∙ last _ _ _ _ _ (x .3 .result) (x .1 .left) (x .3 .ensures .0) (x .4 .left)
+      ∙ same (sym (x .5)) (omega (arith, x .6, x .0 .taken, w .wide .ensures .1)) (sym (x .7)))
+      (λ x. last _ _ _ _ _ (w .wide .result) (w .before .before .if1 .left) (w .wide .ensures .0) (x .0 .left) ∙ same (sym (x .1)) (sym (x .2)) (sym (x .3))))
+      (j .if2 .came)
 
-module _ (w : tie.After-wide Inv-loop μ-loop) where
-  read-on : {x : Found}
-      → let L = w .before .before .before .before .loop in
-      let a = w .before .before .before .before .before .before .args in
-      laterAt (suc (L .left - 1)) (a .bytes .now) (L .p) ≡ x → onto (a .low) 16384 (laterAt 3 (a .bytes .now) (a .at)) ≡ onto (L .sum) (L .scale) x
-  read-on e =
-      let L = w .before .before .before .before .loop in
-      L .inv .0 ∙ ap (onto (L .sum) (L .scale)) (some-left _ _ (L .left) (w .before .before .before .loop-test .taken) ∙ e)
+returns : tie.Need-returns
+returns c = ap (onto _ 16384) (sym (later-none _ _ _ (c .if1 .taken)))
 
-  scale-bound : w .before .before .before .before .loop .scale ≤ 2 ^ 28
-  scale-bound =
-      let L = w .before .before .before .before .loop in
-      scale-small (L .left) (L .scale) (w .before .before .before .loop-test .taken) (L .inv .1 .0)
-
-  -- the byte, and its group
-  byte-scaled : let L = w .before .before .before .before .loop in L .scale * w .wide .result ≤ L .scale * 255
-  byte-scaled = mul-le-mul-left _ (omega (arith, w .wide .ensures .1))
-
-  group-scaled : let L = w .before .before .before .before .loop in L .scale * (w .wide .result % 128) ≤ L .scale * 127
-  group-scaled = scaled _ _ (omega arith)
-
-  less-top : 128 ≤ w .wide .result
-      → let L = w .before .before .before .before .loop in
-      L .scale * w .wide .result ≡ L .scale * 128 + L .scale * (w .wide .result % 128)
-  less-top h = group _ _ h (w .wide .ensures .1)
-
-loop-holds : tie.Need-loop-holds Inv-loop μ-loop
-loop-holds c = (refl, (refl, search needs))
-
-returns : tie.Need-returns Inv-loop μ-loop
-returns c =
-    let L = c .before .before .loop in
-    sym (L .inv .0 ∙ ap (onto (L .sum) (L .scale)) (some-left _ _ (L .left) (c .before .loop-test .taken) ∙ later-none _ _ _ (c .if1 .taken)))
-
-shared-slice-read-wide : tie.Need-shared-slice-read-wide Inv-loop μ-loop
+shared-slice-read-wide : tie.Need-shared-slice-read-wide
 shared-slice-read-wide c = search needs
 
-wide-requires : tie.Need-wide-requires Inv-loop μ-loop
+wide-requires : tie.Need-wide-requires
 wide-requires c κs = search needs
 
-mul-sum : tie.Need-mul-sum Inv-loop μ-loop
-mul-sum c = omega (arith, scale-bound c, byte-scaled c)
+mul-sum : tie.Need-mul-sum
+mul-sum c = search needs
 
-add-sum : tie.Need-add-sum Inv-loop μ-loop
-add-sum c = omega (arith, scale-bound c, byte-scaled c)
+add-sum : tie.Need-add-sum
+add-sum c = search needs
 
-add-p : tie.Need-add-p Inv-loop μ-loop
+add-p : tie.Need-add-p
 add-p c = search needs
 
-returns-2 : tie.Need-returns-2 Inv-loop μ-loop
-returns-2 c =
-    let w = c .before .before in
-    sym (read-on w (later-zero _ _ _ (w .wide .result) (w .before .before .if1 .left) (w .wide .ensures .0) (c .if3 .taken)))
+returns-2 : tie.Need-returns-2
+returns-2 c = sym (after-third (c .before) ∙ ap (onto _ 2097152) (later-none _ _ _ (c .if3 .taken)))
 
-returns-3 : tie.Need-returns-3 Inv-loop μ-loop
-returns-3 c =
-    let w = c .before .before in
-    sym (read-on w (later-last _ _ _ (w .wide .result) (w .before .before .if1 .left) (w .wide .ensures .0) (c .before .if2 .taken) (c .if3 .left)))
+shared-slice-read-wide-2 : tie.Need-shared-slice-read-wide-2
+shared-slice-read-wide-2 c = search needs
 
-mul-scale : tie.Need-mul-scale Inv-loop μ-loop
-mul-scale c = omega (arith, scale-bound (c .before))
+wide-requires-2 : tie.Need-wide-requires-2
+wide-requires-2 c κs = search needs
 
-sub-sum : tie.Need-sub-sum Inv-loop μ-loop
-sub-sum c = omega (arith, less-top (c .before) (c .if2 .left))
+mul-sum-2 : tie.Need-mul-sum-2
+mul-sum-2 c = search needs
 
-sub-left : tie.Need-sub-left Inv-loop μ-loop
-sub-left c = search needs
+add-sum-2 : tie.Need-add-sum-2
+add-sum-2 c = search needs
 
-loop-less : tie.Need-loop-less Inv-loop μ-loop
-loop-less c = search needs
+sub-sum : tie.Need-sub-sum
+sub-sum c = search needs
 
-loop-again : tie.Need-loop-again Inv-loop μ-loop
-loop-again c =
+add-p-2 : tie.Need-add-p-2
+add-p-2 c = search needs
+
+returns-3 : tie.Need-returns-3
+returns-3 c = sym (after-fourth (c .before) ∙ ap (onto _ 268435456) (later-none _ _ _ (c .if5 .taken)))
+
+shared-slice-read-wide-3 : tie.Need-shared-slice-read-wide-3
+shared-slice-read-wide-3 c = search needs
+
+wide-requires-3 : tie.Need-wide-requires-3
+wide-requires-3 c κs = search needs
+
+mul-sum-3 : tie.Need-mul-sum-3
+mul-sum-3 c = search needs
+
+add-sum-3 : tie.Need-add-sum-3
+add-sum-3 c = search needs
+
+sub-sum-2 : tie.Need-sub-sum-2
+sub-sum-2 c = search needs
+
+add-p-3 : tie.Need-add-p-3
+add-p-3 c = search needs
+
+returns-4 : tie.Need-returns-4
+returns-4 c =
     let w = c .before in
-    let L = w .before .before .before .before .loop in
-    let s = w .before .before .before .before .before .before .args .bytes .now in
-    let e : L .sum + L .scale * (w .wide .result % 128) ≡ L .sum + L .scale * w .wide .result - L .scale * 128 = omega (arith, less-top w (c .if2 .left)) in (
-      read-on w (later-more _ _ _ (w .wide .result) (w .before .before .if1 .left) (w .wide .ensures .0) (c .if2 .left))
-          ∙ onto-before (L .sum) (L .scale) (w .wide .result) (laterAt (L .left - 1) s (L .p + 1))
-          ∙ ap (λ (m : ℕ). onto m (L .scale * 128) (laterAt (L .left - 1) s (L .p + 1))) e,
-      (scale-next (L .left) (L .scale) (w .before .before .before .loop-test .taken) (L .inv .1 .0), omega (arith, e, group-scaled w)),
-    )
+    sym (after-fourth (w .before .before .before)
+    ∙ more _ _ _ _ _ (w .wide3 .result) (w .before .before .if5 .left) (w .wide3 .ensures .0) (c .if6 .taken)
+    ∙ ap (onto _ 34359738368) (later-no-more _ _))
 
-returns-4 : tie.Need-returns-4 Inv-loop μ-loop
-returns-4 c = let L = c .before .loop in sym (L .inv .0 ∙ ap (onto (L .sum) (L .scale)) (none-left _ _ (L .left) (c .loop-test .left)))
+returns-5 : tie.Need-returns-5
+returns-5 c = sym (met (c .before) ∙ simp (eq-eqb _ _ (c .if7 .taken)))
+
+returns-6 : tie.Need-returns-6
+returns-6 c = sym (met (c .before) ∙ simp (ne-eqb _ _ (c .if7 .left)))
 
 pub read-long-spec : {M : Type 1} → statement M
 read-long-spec =
     tie.close
     (tie.spec
-    Inv-loop
-    μ-loop
-    loop-holds
     returns
     shared-slice-read-wide
     wide-requires
@@ -158,10 +164,19 @@ read-long-spec =
     add-sum
     add-p
     returns-2
-    returns-3
-    mul-scale
+    shared-slice-read-wide-2
+    wide-requires-2
+    mul-sum-2
+    add-sum-2
     sub-sum
-    sub-left
-    loop-less
-    loop-again
-    returns-4)
+    add-p-2
+    returns-3
+    shared-slice-read-wide-3
+    wide-requires-3
+    mul-sum-3
+    add-sum-3
+    sub-sum-2
+    add-p-3
+    returns-4
+    returns-5
+    returns-6)
