@@ -50,15 +50,18 @@ fn count_of(line: &[u8]) -> u64 {
     n
 }
 
-// The least number of 1, 2 or 5 bytes.
-fn least_number(line: &[u8]) -> u32 {
-    if starts_with(line, b"number-1 ") {
+// The least number of as many bytes as the word's last digit says, up to 5.
+fn least_number(line: &[u8], digit: usize) -> u32 {
+    if line.len() <= digit {
         return 0;
     }
-    if starts_with(line, b"number-2 ") {
-        return 128;
+    match line[digit] {
+        b'1' => 0,
+        b'2' => 128,
+        b'3' => 16384,
+        b'4' => 2097152,
+        _ => 268435456,
     }
-    268435456
 }
 
 enum Answer {
@@ -124,8 +127,11 @@ fn run(line: &[u8]) -> Answer {
     if starts_with(line, b"record-read ") {
         return Answer::Checksum(records::reads(&values, count));
     }
+    if starts_with(line, b"number-read-") {
+        return Answer::Checksum(numbers::reads(least_number(line, 12), count));
+    }
     if starts_with(line, b"number-") {
-        return Answer::Checksum(numbers::round_trips(least_number(line), count));
+        return Answer::Checksum(numbers::round_trips(least_number(line, 7), count));
     }
     Answer::NoOperation
 }
