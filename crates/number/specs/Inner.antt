@@ -3,7 +3,7 @@
 use mathlib.Core.Bool.{cond}
 use mathlib.Core.List.{List}
 use Prim.Native.Nat.{ℕ, suc, _+_, _*_}
-use lib.Dec.{leb, eqb}
+use lib.Dec.{leb, ltb, eqb}
 use lib.ListN.{length, getD, take, drop}
 use Rattle.number.specs.Reading.{Found, number, refused, leadingMore, valueOf}
 
@@ -23,6 +23,10 @@ laterAt left s at = judgedLater left at (drop at s) (leadingMore (drop at s))
 abbrev pub onto : ℕ → ℕ → Found → Found
 onto low scale (number v k) = number (low + scale * v) k
 onto low scale (refused refusal) = refused refusal
+
+-- a number of more than one byte at its end, by its value: below a unit of its last group, that group is 0
+abbrev pub endedOf : ℕ → ℕ → ℕ → Found
+endedOf value unit next = cond (ltb value unit) (refused 11) (number value next)
 
 -- The answer of a reading that a refusal ends. No reading ends with a number, so that the case of one is never reached: it refuses too,
 -- with 12.

@@ -3,7 +3,7 @@ ghost use mathlib.Core.Path.{_≡_};
 ghost use Prim.Native.Nat.{_*_, _<_};
 ghost use Rattle.number.specs.Form.{group};
 ghost use Rattle.number.specs.Reading.{numberAt, told};
-ghost use Rattle.number.specs.Inner.{laterAt, onto};
+ghost use Rattle.number.specs.Inner.{laterAt, onto, endedOf};
 use crate::form::GROUP;
 use crate::form::MORE;
 
@@ -66,6 +66,20 @@ pub fn read(bytes: &[u8], at: usize) -> Decoded
     }
 }
 
+// A number of more than one byte that ends before `next`; `unit` is what a unit of its last group is worth. Below that the last group is 0, and
+// the form not the shortest.
+fn ended(value: u64, unit: u64, next: usize) -> Decoded
+    ensures { λ r. ⌜ told r ≡ endedOf value unit next ⌝ }
+{
+    if value < unit {
+        return Decoded::Refused(11);
+    }
+    Decoded::Value {
+        value: value,
+        next: next,
+    }
+}
+
 // The same for a number of three bytes or more, from its third byte on; `low` is what the first two hold.
 fn read_long(bytes: &[u8], at: usize, low: u64) -> Decoded
     requires { ⌜ low < group * group ⌝ }
@@ -75,34 +89,28 @@ fn read_long(bytes: &[u8], at: usize, low: u64) -> Decoded
     if n <= at {
         return Decoded::Refused(10);
     }
-    let mut last = wide(bytes[at]);
-    let mut sum = low + THIRD_GROUP * last;
-    let mut p = at + 1;
-    if SAYS_MORE <= last {
-        if n <= p {
-            return Decoded::Refused(10);
-        }
-        last = wide(bytes[p]);
-        // The top bit of a byte is worth a unit of the next group, and none of the number.
-        sum = sum + FOURTH_GROUP * last - FOURTH_GROUP;
-        p = p + 1;
-        if SAYS_MORE <= last {
-            if n <= p {
-                return Decoded::Refused(10);
-            }
-            last = wide(bytes[p]);
-            sum = sum + FIFTH_GROUP * last - FIFTH_GROUP;
-            p = p + 1;
-            if SAYS_MORE <= last {
-                return Decoded::Refused(11);
-            }
-        }
+    let b2 = wide(bytes[at]);
+    let v3 = low + THIRD_GROUP * b2;
+    let p = at + 1;
+    if b2 < SAYS_MORE {
+        return ended(v3, THIRD_GROUP, p);
     }
-    if last == 0 {
-        return Decoded::Refused(11);
+    if n <= p {
+        return Decoded::Refused(10);
     }
-    Decoded::Value {
-        value: sum,
-        next: p,
+    let b3 = wide(bytes[p]);
+    // The top bit of a byte is worth a unit of the next group, and none of the number.
+    let v4 = v3 + FOURTH_GROUP * b3 - FOURTH_GROUP;
+    let q = p + 1;
+    if b3 < SAYS_MORE {
+        return ended(v4, FOURTH_GROUP, q);
     }
+    if n <= q {
+        return Decoded::Refused(10);
+    }
+    let b4 = wide(bytes[q]);
+    if SAYS_MORE <= b4 {
+        return Decoded::Refused(11); // whether bytes follow or not
+    }
+    ended(v4 + FIFTH_GROUP * b4 - FIFTH_GROUP, FIFTH_GROUP, q + 1)
 }
