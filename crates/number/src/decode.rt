@@ -34,7 +34,21 @@ fn wide(b: u8) -> u64
     b as u64
 }
 
-// The number that starts at `at`. Most numbers have one or two bytes: those take no loop.
+// A number of more than one byte that ends before `next`; `unit` is what a unit of its last group is worth. Below that the last group is 0, and
+// the form not the shortest.
+fn ended(value: u64, unit: u64, next: usize) -> Decoded
+    ensures { λ r. ⌜ told r ≡ endedOf value unit next ⌝ }
+{
+    if value < unit {
+        return Decoded::Refused(11);
+    }
+    Decoded::Value {
+        value: value,
+        next: next,
+    }
+}
+
+// The number that starts at `at`, without a loop: most numbers have one or two bytes, and for the others too straight groups take less.
 pub fn read(bytes: &[u8], at: usize) -> Decoded
     ensures { λ r. ⌜ told r ≡ numberAt (now (bytes .entry)) at ⌝ }
 {
@@ -66,21 +80,7 @@ pub fn read(bytes: &[u8], at: usize) -> Decoded
     }
 }
 
-// A number of more than one byte that ends before `next`; `unit` is what a unit of its last group is worth. Below that the last group is 0, and
-// the form not the shortest.
-fn ended(value: u64, unit: u64, next: usize) -> Decoded
-    ensures { λ r. ⌜ told r ≡ endedOf value unit next ⌝ }
-{
-    if value < unit {
-        return Decoded::Refused(11);
-    }
-    Decoded::Value {
-        value: value,
-        next: next,
-    }
-}
-
-// The same for a number of three bytes or more, from its third byte on; `low` is what the first two hold.
+// The rest of a number of three bytes or more, from its third byte on; `low` is what the first two hold.
 fn read_long(bytes: &[u8], at: usize, low: u64) -> Decoded
     requires { ⌜ low < group * group ⌝ }
     ensures { λ r. ⌜ told r ≡ onto low (group * group) (laterAt 3 (now (bytes .entry)) at) ⌝ }
