@@ -15,7 +15,7 @@ use Rattle.state.specs.declared.state.Clock.{Clock}
 use Rattle.state.specs.declared.units.Micros.{Micros}
 use Rattle.state.proofs.Ok.{Ok, ok}
 use Rattle.request.specs.declared.request.Request.{Request}
-use Rattle.request.specs.Request.{selectsOffset, selectsFrequency, selectsMaxerror, selectsEsterror, selectsStatus, selectsConstant, modeAbove, offsetOutside, frequencyOutside, errorAbove, statusAbove, constantAbove, requestRefusal, frequencyWritten, statusWritten, constantWritten, clamp, frequencyGrown, writesBad, requested}
+use Rattle.request.specs.Request.{selectsOffset, selectsFrequency, selectsMaxerror, selectsEsterror, selectsStatus, selectsConstant, shortestInterval, modeAbove, offsetOutside, frequencyOutside, errorAbove, statusAbove, constantAbove, offsetTooSoon, requestRefusal, frequencyWritten, statusWritten, constantWritten, clamp, frequencyGrown, writesBad, requested}
 use Rattle.request.proofs.GainLaws.{clamp-parts}
 
 -- a chain of refusals that comes to 0 was not left at its first
@@ -45,6 +45,7 @@ pub record Accepted (c : Clock) (r : Request) : Type 0 where
   pub esterror : selectsEsterror r ≡ true → r .esterror .0 ≤ 16000000
   pub status : selectsStatus r ≡ true → r .status ≤ 4
   pub constant : selectsConstant r ≡ true → r .constant ≤ 4
+  pub spaced : selectsOffset r ≡ true → c .updated ≡ 1 → 64 ≤ c .interval
 
 pub accepted : (c : Clock) (r : Request) → requestRefusal c r ≡ 0 → Accepted c r
 unfolding requestRefusal
@@ -56,6 +57,7 @@ accepted c r e =
     let a7 = chain (errorAbove r) 7 _ (lit< tt) (a6 .1) in
     let a8 = chain (statusAbove r) 8 _ (lit< tt) (a7 .1) in
     let a9 = chain (constantAbove r) 9 _ (lit< tt) (a8 .1) in
+    let a17 = chain (offsetTooSoon c r) 17 _ (lit< tt) (a9 .1) in
     let errors = or-false (selectsMaxerror r && ltb greatestError (r .maxerror .0)) (selectsEsterror r && ltb greatestError (r .esterror .0)) (a7 .0) in
     record {
       clock = ok c (not-false (inRange c) (a1 .0));
@@ -65,6 +67,7 @@ accepted c r e =
       esterror = most-if (selectsEsterror r) greatestError (r .esterror .0) (errors .1);
       status = most-if (selectsStatus r) statusBad (r .status) (a8 .0);
       constant = most-if (selectsConstant r) greatestConstant (r .constant) (a9 .0);
+      spaced = λ t u. ltb-false (c .interval) shortestInterval (simp (t, u) at (a17 .0));
     }
 
 -- of a field that is written where b holds

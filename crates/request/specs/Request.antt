@@ -74,7 +74,15 @@ statusAbove r = selectsStatus r && ltb statusBad (r .status)
 abbrev pub constantAbove : Request → Bool
 constantAbove r = selectsConstant r && ltb greatestConstant (r .constant)
 
--- "The lowest of 1 to 9 that applies is given"; "Unselected fields are not examined."
+-- document 02: the fewest rollovers from one accepted offset to the next, README.kern's MINSEC (rollovers)
+abbrev pub shortestInterval : ℕ
+shortestInterval = 64
+
+-- 17 "A request that selects an offset fewer than 64 rollovers after the last accepted one"; "A clock without an earlier update is exempt."
+abbrev pub offsetTooSoon : Clock → Request → Bool
+offsetTooSoon c r = selectsOffset r && eqb (c .updated) 1 && ltb (c .interval) shortestInterval
+
+-- "The lowest of 1 to 9 that applies is given"; "Unselected fields are not examined." Document 02: 17 is "checked after 9".
 unfoldable pub requestRefusal : Clock → Request → ℕ
 requestRefusal c r =
     refuse (not (inRange c)) 1
@@ -84,7 +92,8 @@ requestRefusal c r =
     (refuse (errorAbove r) 7
     (refuse (statusAbove r) 8
     (refuse (constantAbove r) 9
-    0))))))
+    (refuse (offsetTooSoon c r) 17
+    0)))))))
 
 -- "Effects in the order frequency, errors, status, time constant, offset." Each of them is a definition of its own.
 -- the frequency, before an offset moves it (frequency units)

@@ -1,6 +1,6 @@
 ghost use mathlib.Core.Path.{_≡_};
 ghost use Prim.Native.Nat.{_<_};
-ghost use Rattle.request.specs.Request.{bitSet, offsetOutside, frequencyOutside, maxerrorAbove, esterrorAbove, statusAbove, constantAbove, requestRefusal};
+ghost use Rattle.request.specs.Request.{bitSet, offsetOutside, frequencyOutside, maxerrorAbove, esterrorAbove, statusAbove, constantAbove, offsetTooSoon, requestRefusal};
 use crate::limits::FREQUENCY_LOWER_END;
 use crate::limits::FREQUENCY_UPPER_END;
 use crate::limits::MAX_CONSTANT;
@@ -15,6 +15,7 @@ use crate::request::ADJ_MAXERROR;
 use crate::request::ADJ_OFFSET;
 use crate::request::ADJ_STATUS;
 use crate::request::ADJ_TIMECONST;
+use crate::request::MIN_INTERVAL;
 use crate::request::Request;
 use clock::Clock;
 use clock::in_range;
@@ -63,6 +64,13 @@ fn constant_above(r: Request) -> bool
     is_set(r.mode, ADJ_TIMECONST) & (MAX_CONSTANT < r.constant)
 }
 
+// The count stops far above the least, so that it tells fewer rollovers as they were.
+fn offset_too_soon(c: Clock, r: Request) -> bool
+    ensures { λ b. ⌜ b ≡ offsetTooSoon c r ⌝ }
+{
+    is_set(r.mode, ADJ_OFFSET) & (c.updated == 1) & (c.interval < MIN_INTERVAL)
+}
+
 // The lowest refusal that applies, or 0.
 pub(crate) fn refusal_of(c: Clock, r: Request) -> u8
     ensures { λ n. ⌜ n ≡ requestRefusal c r ⌝ }
@@ -90,6 +98,9 @@ pub(crate) fn refusal_of(c: Clock, r: Request) -> u8
     }
     if constant_above(r) {
         return 9;
+    }
+    if offset_too_soon(c, r) {
+        return 17;
     }
     0
 }

@@ -1,5 +1,5 @@
 ghost use mathlib.Core.Path.{_≡_};
-ghost use Rattle.request.specs.Request.{modeBits, requestOf};
+ghost use Rattle.request.specs.Request.{modeBits, shortestInterval, requestOf};
 use crate::effects::requested_of;
 use crate::refusal::refusal_of;
 use crate::units::AskedFrequency;
@@ -51,6 +51,9 @@ pub fn mode_bits() -> ModeBits
     }
 }
 
+// The fewest rollovers from one accepted offset to the next: README.kern's MINSEC.
+pub const MIN_INTERVAL: u32 = 64;
+
 // The mode says which fields are selected; the others are not looked at.
 #[repr(C)]
 pub struct Request {
@@ -66,6 +69,7 @@ pub struct Request {
 // The clock with a request carried out, or refused whole: ntp_adjtime() of RFC 1589.
 pub fn adjust(c: Clock, r: Request) -> Outcome
     ensures { λ q. ⌜ q ≡ requestOf c r ⌝ }
+    ensures { λ _. do ⌜ (← ⟦MIN_INTERVAL⟧ .entry) ≡ shortestInterval ⌝ }
 {
     let n = refusal_of(c, r);
     if n != 0 {

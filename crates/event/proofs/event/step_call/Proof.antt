@@ -43,7 +43,7 @@ returns-2 : tie.Need-returns-2
 returns-2 c = simp (c .before .before .before .call .given .1, c .step-with2 .ensures, c .before .set .ensures)
 
 returns-3 : tie.Need-returns-3
-returns-3 c = simp (c .before .before .before .call2 .given .1, c .step-with3 .ensures, c .before .adjust .ensures)
+returns-3 c = simp (c .before .before .before .call2 .given .1, c .step-with3 .ensures, c .before .adjust .ensures .0)
 
 returns-4 : tie.Need-returns-4
 returns-4 c = simp (c .before .before .enum-told2 .given .1, c .before .read .ensures)

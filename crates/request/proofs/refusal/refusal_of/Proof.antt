@@ -4,7 +4,7 @@ use borrow.Author.Tests.{not-true, not-false, lt-ltb, le-ltb}
 use mathlib.Core.Bool.{true, false}
 use mathlib.Core.Path.{_≡_, sym, _∙_}
 use Rattle.state.specs.State.{inRange}
-use Rattle.request.specs.Request.{modeAbove, offsetOutside, frequencyOutside, maxerrorAbove, esterrorAbove, statusAbove, constantAbove, requestRefusal}
+use Rattle.request.specs.Request.{modeAbove, offsetOutside, frequencyOutside, maxerrorAbove, esterrorAbove, statusAbove, constantAbove, offsetTooSoon, requestRefusal}
 use Rattle.request.proofs.refusal.refusal_of.Statement.{statement}
 use Rattle.request.proofs.refusal.refusal_of.Tie as tie
 
@@ -31,6 +31,9 @@ status-fine c = sym (c .before .status-above .ensures) ∙ c .if7 .left
 
 constant-fine : (c : tie.Else8) → constantAbove (c .before .before .before .before .before .before .before .before .before .before .before .before .before .before .before .before .args .r) ≡ false
 constant-fine c = sym (c .before .constant-above .ensures) ∙ c .if8 .left
+
+spaced : (c : tie.Else9) → offsetTooSoon (c .before .before .before .before .before .before .before .before .before .before .before .before .before .before .before .before .before .before .args .c) (c .before .before .before .before .before .before .before .before .before .before .before .before .before .before .before .before .before .before .args .r) ≡ false
+spaced c = sym (c .before .offset-too-soon .ensures) ∙ c .if9 .left
 
 in-range-requires : tie.Need-in-range-requires
 in-range-requires c κs = search needs
@@ -99,9 +102,18 @@ returns-8 c =
     let t = sym (c .before .constant-above .ensures) ∙ c .if8 .taken in
     simp (inside (c .before .before .before .before .before .before .before .before .before .before .before .before .before .before), mode-fine (c .before .before .before .before .before .before .before .before .before .before .before .before), offset-fine (c .before .before .before .before .before .before .before .before .before .before), frequency-fine (c .before .before .before .before .before .before .before .before), maxerror-fine (c .before .before .before .before .before .before), esterror-fine (c .before .before .before .before), status-fine (c .before .before), t)
 
+offset-too-soon-requires : tie.Need-offset-too-soon-requires
+offset-too-soon-requires c κs = search needs
+
 returns-9 : tie.Need-returns-9
 unfolding requestRefusal
-returns-9 c = simp (inside (c .before .before .before .before .before .before .before .before .before .before .before .before .before .before), mode-fine (c .before .before .before .before .before .before .before .before .before .before .before .before), offset-fine (c .before .before .before .before .before .before .before .before .before .before), frequency-fine (c .before .before .before .before .before .before .before .before), maxerror-fine (c .before .before .before .before .before .before), esterror-fine (c .before .before .before .before), status-fine (c .before .before), constant-fine c)
+returns-9 c =
+    let t = sym (c .before .offset-too-soon .ensures) ∙ c .if9 .taken in
+    simp (inside (c .before .before .before .before .before .before .before .before .before .before .before .before .before .before .before .before), mode-fine (c .before .before .before .before .before .before .before .before .before .before .before .before .before .before), offset-fine (c .before .before .before .before .before .before .before .before .before .before .before .before), frequency-fine (c .before .before .before .before .before .before .before .before .before .before), maxerror-fine (c .before .before .before .before .before .before .before .before), esterror-fine (c .before .before .before .before .before .before), status-fine (c .before .before .before .before), constant-fine (c .before .before), t)
+
+returns-10 : tie.Need-returns-10
+unfolding requestRefusal
+returns-10 c = simp (inside (c .before .before .before .before .before .before .before .before .before .before .before .before .before .before .before .before), mode-fine (c .before .before .before .before .before .before .before .before .before .before .before .before .before .before), offset-fine (c .before .before .before .before .before .before .before .before .before .before .before .before), frequency-fine (c .before .before .before .before .before .before .before .before .before .before), maxerror-fine (c .before .before .before .before .before .before .before .before), esterror-fine (c .before .before .before .before .before .before), status-fine (c .before .before .before .before), constant-fine (c .before .before), spaced c)
 
 pub refusal-of-spec : {M : Type 1} → statement M
 refusal-of-spec =
@@ -122,4 +134,6 @@ refusal-of-spec =
     returns-7
     constant-above-requires
     returns-8
-    returns-9)
+    offset-too-soon-requires
+    returns-9
+    returns-10)
