@@ -51,13 +51,13 @@ module _ (c : Clock) (n : Since) (h : updateOf c ≡ heldUpdate n) where
   requested-held r true t (req.done a e) = simp (e, t) refl
   requested-held r false t (req.done a e) = simp (e, t) h
 
-  step-held : (e : Call) → updateOf (next c e) ≡ heldUpdate (callSince c e n)
+  pub step-held : (e : Call) → updateOf (next c e) ≡ heldUpdate (callSince c e n)
   step-held call.Tick = tick-held (tickCase c)
   step-held (call.Setting s u) = set-held s u (settingCase c s u)
   step-held (call.Request r) = requested-held r (selectsOffset r) refl (req.requestCase c r)
   step-held call.Reading = h
 
-run-held : (c : Clock) (n : Since) (es : List Call) → updateOf c ≡ heldUpdate n → updateOf (after c es) ≡ heldUpdate (sinceFrom c n es)
+pub run-held : (c : Clock) (n : Since) (es : List Call) → updateOf c ≡ heldUpdate n → updateOf (after c es) ≡ heldUpdate (sinceFrom c n es)
 unfolding afterBy sinceFrom
 run-held c n [] h = h
 run-held c n (e ∷ es) h = run-held (next c e) (callSince c e n) es (step-held c n h e)

@@ -7,5 +7,6 @@ pub mod Moved
 pub mod Forward
 pub mod Theorem
 pub mod Interval
+pub mod Apart
 pub mod Table
 pub mod ShutOut

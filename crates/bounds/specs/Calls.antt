@@ -7,6 +7,8 @@ use Rattle.state.specs.State.{freshClock}
 use Rattle.clock.specs.Rollover.{inserts, deletes}
 use Rattle.clock.specs.Tick.{rollsOver}
 use Rattle.state.specs.declared.state.Clock.{Clock}
+use Rattle.request.specs.Request.{selectsOffset}
+use Rattle.request.specs.declared.request.Request as asked
 use Rattle.event.specs.Event.{answerOf, stepOf}
 use Rattle.event.specs.declared.event.Call.{Call}
 use Rattle.event.specs.declared.event.Call.the-variants.{Tick, Setting, Request, Reading}
@@ -61,6 +63,10 @@ ticks c e = isTick e && accepted c e
 abbrev pub sets : Clock → Call → Bool
 sets c e = isSetting e && accepted c e
 
+-- an accepted request that selects an offset
+abbrev pub takesOffset : Clock → asked.Request → Bool
+takesOffset c r = accepted c (Request r) && selectsOffset r
+
 -- an accepted tick that rolls over
 abbrev pub rolls : Clock → Call → Bool
 rolls c e = ticks c e && rollsOver c
@@ -72,16 +78,31 @@ insertsSecond c = inserts (c .status) (c .seconds + 1)
 abbrev pub deletesSecond : Clock → Bool
 deletesSecond c = deletes (c .status) (c .seconds + 1)
 
--- how many accepted ticks are among the calls, the first of which gets c
-unfoldable pub ticksAmong : Clock → List Call → ℕ
-ticksAmong c [] = 0
-ticksAmong c (e ∷ es) = cond (ticks c e) 1 0 + ticksAmong (next c e) es
+-- Of the calls of a list, the first of which gets c: how many are of a sort, and whether none is. Each is judged at the clock that it gets.
+unfoldable pub countAmong : (Clock → Call → Bool) → Clock → List Call → ℕ
+countAmong sort c [] = 0
+countAmong sort c (e ∷ es) = cond (sort c e) 1 0 + countAmong sort (next c e) es
+
+unfoldable pub noneAmong : (Clock → Call → Bool) → Clock → List Call → Bool
+noneAmong sort c [] = true
+noneAmong sort c (e ∷ es) = not (sort c e) && noneAmong sort (next c e) es
+
+-- how many accepted ticks are among the calls
+abbrev pub ticksAmong : Clock → List Call → ℕ
+ticksAmong c es = countAmong ticks c es
+
+-- how many rollovers
+abbrev pub rolloversAmong : Clock → List Call → ℕ
+rolloversAmong c es = countAmong rolls c es
+
+-- whether there is no accepted setting
+abbrev pub neverSet : Clock → List Call → Bool
+neverSet c es = noneAmong sets c es
 
 -- an accepted setting, or an accepted tick whose rollover inserts a second
 abbrev pub setsOrInserts : Clock → Call → Bool
 setsOrInserts c e = sets c e || (rolls c e && insertsSecond c)
 
--- whether there is "neither a setting nor an inserted second" among the calls, the first of which gets c
-unfoldable pub neitherSetNorInserted : Clock → List Call → Bool
-neitherSetNorInserted c [] = true
-neitherSetNorInserted c (e ∷ es) = not (setsOrInserts c e) && neitherSetNorInserted (next c e) es
+-- whether there is "neither a setting nor an inserted second" among the calls
+abbrev pub neitherSetNorInserted : Clock → List Call → Bool
+neitherSetNorInserted c es = noneAmong setsOrInserts c es

@@ -1,7 +1,7 @@
 -- "Marked cases (proved together)", the two edges at the last second, and the interval and the second device of document 02: a table with a
 -- row for each, and what it means that a row holds. A row starts at a fresh clock of kind 0, or of the kind that it names, but for the fields
 -- that it names. Where it says "rollover", ticks are made up to and with the next that rolls over.
-use Prim.Native.Nat.{ℕ, zero, suc}
+use Prim.Native.Nat.{ℕ, zero, suc, _+_}
 use mathlib.Core.Path.{_≡_}
 use mathlib.Core.Bool.{Bool, true, _&&_, cond}
 use mathlib.Core.List.{List, [], _∷_}
@@ -208,9 +208,9 @@ d then vs = record { doing = d; then = vs }
 abbrev pub row : List Start → List Stage → Case
 row f gs = record { from = f; stages = gs }
 
--- a request of this mode, its offset in us and all else 0
-abbrev pub requests : ℕ → ℤ → Call
-requests mode o =
+-- a request of this mode, with an offset in us and a time constant, and all else 0
+abbrev pub requests : ℕ → ℤ → ℕ → Call
+requests mode o k =
     call.Request
     (record {
       mode = mode;
@@ -219,23 +219,28 @@ requests mode o =
       maxerror = record { 0 = 0 };
       esterror = record { 0 = 0 };
       status = 0;
-      constant = 0;
+      constant = k;
     })
 
 -- one that selects an offset (us), and nothing else
 abbrev pub asks : ℤ → Call
-asks o = requests (modeBits .offset) o
+asks o = requests (modeBits .offset) o 0
+
+-- one that selects an offset (us) and a time constant
+abbrev pub asksAt : ℕ → ℤ → Call
+asksAt k o = requests (modeBits .offset + modeBits .constant) o k
 
 -- one that selects nothing
 abbrev pub asksNothing : Call
-asksNothing = requests 0 (pos 0)
+asksNothing = requests 0 (pos 0) 0
 
 abbrev pub set : ℕ → ℕ → Call
 set s u = call.Setting s (record { 0 = u })
 
 -- The table of document 01, row by row ("frequency unchanged" at two frequencies; document 02: "the marked interval 5,000 becomes 1,024"),
--- after it the two edges, and then document 02's: the interval across an inserted and a deleted second, up to its limit, set back by an
--- accepted offset alone, and none without one; and the second device by the rows of the first, its kind kept by a setting, and no third.
+-- after it the two edges, and then document 02's: the interval across an inserted and a deleted second, up to its limit, and none without an
+-- offset or after a setting; an offset a rollover too soon, which leaves it, and in time, which sets it back; and the second device by the
+-- rows of the first, its kind kept by a setting, and no third.
 abbrev pub markedCases : List Case
 markedCases =
     row []
@@ -284,9 +289,14 @@ markedCases =
     ∷ rollover then (updated is 1 ∷ interval is 1 ∷ [])
     ∷ callOf (asks (pos 128000)) then (refusal 5 ∷ updated is 1 ∷ interval is 1 ∷ [])
     ∷ callOf asksNothing then (refusal 0 ∷ updated is 1 ∷ interval is 1 ∷ [])
-    ∷ callOf (asks (pos 1000)) then (refusal 0 ∷ updated is 1 ∷ interval is 0 ∷ [])
-    ∷ rollover then (interval is 1 ∷ [])
-    ∷ callOf (set 0 0) then (refusal 0 ∷ updated is 0 ∷ interval is 0 ∷ []) ∷ [])
+    ∷ callOf (set 0 0) then (refusal 0 ∷ updated is 0 ∷ interval is 0 ∷ [])
+    ∷ callOf (asks (pos 1000)) then (refusal 0 ∷ updated is 1 ∷ interval is 0 ∷ []) ∷ [])
+    ∷ row (updated ≔ 1 ∷ interval ≔ 63 ∷ [])
+    (callOf (asks (pos 1000)) then (refusal 17 ∷ left isℤ pos 0 ∷ updated is 1 ∷ interval is 63 ∷ [])
+    ∷ callOf (asksAt 5 (pos 1000)) then (refusal 9 ∷ [])
+    ∷ callOf asksNothing then (refusal 0 ∷ interval is 63 ∷ [])
+    ∷ rollover then (interval is 64 ∷ [])
+    ∷ callOf (asks (pos 1000)) then (refusal 0 ∷ left isℤ pos 16384000 ∷ frequency isℤ pos 64000 ∷ interval is 0 ∷ []) ∷ [])
     ∷ row (kind ≔ kind1024 ∷ [])
     (tickTimes 1023 then (seconds is 0 ∷ micros 999023 ∷ phase isℤ pos 117440512 ∷ []) ∷ [])
     ∷ row (kind ≔ kind1024 ∷ [])

@@ -2,15 +2,14 @@
 -- after any list of events, by the calls alone.
 use Prim.Native.Nat.{ℕ, _+_, min}
 use mathlib.Core.Path.{_≡_}
-use mathlib.Core.Bool.{Bool, true, false, _&&_, cond}
+use mathlib.Core.Bool.{Bool, true, false, cond}
 use mathlib.Core.List.{List, [], _∷_}
 use Rattle.state.specs.State.{freshClock, Update, updateOf, noUpdate, longestInterval}
 use Rattle.state.specs.declared.state.Clock.{Clock}
-use Rattle.request.specs.Request.{selectsOffset}
 use Rattle.event.specs.declared.event.Call.{Call}
 use Rattle.event.specs.declared.event.Call.the-variants.{Tick, Setting, Request, Reading}
 use Rattle.event.specs.declared.event.Event.{Event}
-use Rattle.bounds.specs.Calls.{next, accepted, rolls, clockAfter}
+use Rattle.bounds.specs.Calls.{next, accepted, takesOffset, rolls, clockAfter}
 use Rattle.bounds.specs.Singly.{singly}
 
 pub record Since : Type 0 where
@@ -27,7 +26,7 @@ noOffset = record { offset = false; rollovers = 0 }
 abbrev pub callSince : Clock → Call → Since → Since
 callSince rules Tick n = cond (rolls rules Tick) (record { offset = n .offset; rollovers = n .rollovers + 1 }) n
 callSince rules (Setting s u) n = cond (accepted rules (Setting s u)) noOffset n
-callSince rules (Request r) n = cond (accepted rules (Request r) && selectsOffset r) (record { offset = true; rollovers = 0 }) n
+callSince rules (Request r) n = cond (takesOffset rules r) (record { offset = true; rollovers = 0 }) n
 callSince rules Reading n = n
 
 -- some calls, the first of which the rules meet at the clock `rules`
