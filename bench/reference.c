@@ -22,6 +22,7 @@
 #define MAX_ERROR 16000000
 #define MAX_FREQUENCY 1677721600
 #define MAX_LEFT 2097135616
+#define MIN_INTERVAL 64
 #define MAX_INTERVAL 1024
 #define PHASE_US (1 << 28) /* phase units in a microsecond */
 
@@ -470,6 +471,8 @@ static int refusal_of(const struct clock *c, const struct request *r)
 		return 8;
 	if ((r->mode & CONSTANT) && r->constant > 4)
 		return 9;
+	if ((r->mode & OFFSET) && c->updated && c->interval < MIN_INTERVAL)
+		return 17;
 	return 0;
 }
 
@@ -1002,11 +1005,19 @@ static uint64_t greatest_1024(uint64_t count)
 	return catch_ups(KIND_1024, MAX_CEILING, count);
 }
 
+/* 64 rollovers later: so no offset comes too soon, and the interval that a request takes moves. It stays below 1,024. */
+static void go_on(struct clock *c)
+{
+	c->seconds += 64;
+	c->interval = c->interval % 960 + 64;
+}
+
 static uint64_t request_some(struct clock *c, uint64_t count)
 {
 	uint64_t values[64], sum = 0;
 	fill_numbers(values);
 	*c = begun(values, KIND_256);
+	go_on(c);
 	for (uint64_t i = 0; i < count; i++) {
 		uint64_t k = i / 64;
 		struct request r = {
@@ -1020,8 +1031,7 @@ static uint64_t request_some(struct clock *c, uint64_t count)
 		};
 		int refusal = adjust(c, &r);
 		sum = mix(mix(sum, refusal), c->status);
-		c->seconds += 64;
-		c->interval = c->interval % 960 + 64;
+		go_on(c);
 	}
 	return sum;
 }

@@ -48,7 +48,8 @@ enum heukelvos_refusal {
 	HEUKELVOS_REFUSED_BEYOND = 13,   /* bytes behind a record's end, or too long a history */
 	HEUKELVOS_REFUSED_ROOM = 14,     /* a buffer shorter than what is to be written */
 	HEUKELVOS_REFUSED_LABEL = 15,    /* not a label */
-	HEUKELVOS_REFUSED_CEILING = 16   /* a ceiling above 65,536 ticks */
+	HEUKELVOS_REFUSED_CEILING = 16,  /* a ceiling above 65,536 ticks */
+	HEUKELVOS_REFUSED_SOON = 17      /* an offset fewer than 64 rollovers after the last accepted one */
 };
 
 /* Status. TIME_BAD is 4 here, and 5 in today's sys/timex.h, where 4 is TIME_WAIT. */
@@ -90,6 +91,7 @@ enum heukelvos_mode {
 #define HEUKELVOS_LEAST_ADJUSTMENT_1024 92012800 /* phase units a tick, of the 1,024 Hz recorder */
 #define HEUKELVOS_MOST_ADJUSTMENT_1024 209977088
 #define HEUKELVOS_MAX_CONSTANT 4
+#define HEUKELVOS_MIN_INTERVAL 64              /* rollovers from one accepted offset to the next: sooner ones are refused */
 #define HEUKELVOS_MAX_INTERVAL 1024            /* rollovers since the last offset: later ones are not counted */
 #define HEUKELVOS_MAX_ERROR 16000000           /* us, both errors */
 #define HEUKELVOS_MAX_CEILING 65536            /* ticks in one catch-up */
@@ -191,8 +193,9 @@ struct heukelvos_counted heukelvos_catch_up(struct heukelvos_clock *clock, uint6
  *                      the status is BAD. Refusals 1, 2
  * heukelvos_adjust     the clock with every selected field's effect, ntp_adjtime() of RFC 1589. An offset (us) moves the frequency by
  *                      offset x interval / 4^constant, within its range, and the interval is then 0. A status is written only where the
- *                      clock is OK or BAD is written; an offset turns BAD to OK, unless the same request writes BAD. Refusals 1, 4, 5,
- *                      6, 7, 8, 9
+ *                      clock is OK or BAD is written; an offset turns BAD to OK, unless the same request writes BAD. An offset fewer
+ *                      than 64 rollovers after the last accepted one is refused with 17; after a setting, and on a fresh clock, there is
+ *                      none, and the first comes when it comes. Refusals 1, 4, 5, 6, 7, 8, 9, 17
  * heukelvos_read       what the clock shows. Refusal 1: the reading is then zeros and status 4
  */
 struct heukelvos_outcome heukelvos_fresh(uint64_t kind);

@@ -371,9 +371,9 @@ static bool intervals(int kind)
 	Clock deleted = adjusted(kind, midnight - 3, 0, 0, 1000, 0, HEUKELVOS_TIME_DEL);
 	struct heukelvos_request other = { 0 };
 	other.mode = HEUKELVOS_ADJ_MAXERROR;
-	if (!counts(&inserted, 5) || inserted.seconds != midnight + 1 || inserted.interval != 5 || gained(inserted) != 5000)
+	if (!counts(&inserted, 70) || inserted.seconds != midnight + 66 || inserted.interval != 70 || gained(inserted) != 70000)
 		return show("an inserted second", inserted), false;
-	if (!counts(&deleted, 5) || deleted.seconds != midnight + 3 || deleted.interval != 5 || gained(deleted) != 5000)
+	if (!counts(&deleted, 70) || deleted.seconds != midnight + 68 || deleted.interval != 70 || gained(deleted) != 70000)
 		return show("a deleted second", deleted), false;
 	if (!counts(&plain, HEUKELVOS_MAX_INTERVAL) || plain.interval != HEUKELVOS_MAX_INTERVAL || !counts(&plain, 3)
 	    || plain.interval != HEUKELVOS_MAX_INTERVAL || gained(plain) != 1000 * HEUKELVOS_MAX_INTERVAL)
@@ -382,6 +382,35 @@ static bool intervals(int kind)
 		return show("no earlier offset", none), false;
 	Clock reset = heukelvos_set(plain, midnight, 0).clock;
 	return heukelvos_adjust(plain, other).clock.interval == HEUKELVOS_MAX_INTERVAL && reset.updated == 0 && reset.interval == 0;
+}
+
+/* Whether a request gets this refusal, and leaves the clock. */
+static bool refused(Clock c, struct heukelvos_request r, uint8_t refusal)
+{
+	struct heukelvos_outcome o = heukelvos_adjust(c, r);
+	return (o.refusal == refusal && same(o.clock, c)) || (show("refused otherwise", o.clock), false);
+}
+
+/*
+ * An offset is refused at once after another and up to 63 rollovers later, whatever comes with it, but for a bad time constant, which is
+ * judged before. A request without one is accepted, and a rollover later the offset is.
+ */
+static bool too_soon(int kind)
+{
+	Clock c = adjusted(kind, midnight, 0, 0, 1000, 0, HEUKELVOS_TIME_OK);
+	struct heukelvos_request r = { HEUKELVOS_ADJ_OFFSET, 1000, 7, 7, 7, 0, HEUKELVOS_MAX_CONSTANT + 1 };
+	if (!refused(c, r, HEUKELVOS_REFUSED_SOON) || !counts(&c, HEUKELVOS_MIN_INTERVAL - 1) || !refused(c, r, HEUKELVOS_REFUSED_SOON))
+		return show("the clock", c), false;
+	r.mode = 31;
+	if (!refused(c, r, HEUKELVOS_REFUSED_SOON))
+		return false;
+	r.mode = 63;
+	if (!refused(c, r, HEUKELVOS_REFUSED_CONSTANT))
+		return false;
+	r.mode = HEUKELVOS_ADJ_MAXERROR;
+	struct heukelvos_outcome other = heukelvos_adjust(c, r);
+	return other.refusal == 0 && other.clock.maxerror == 7 && other.clock.interval == HEUKELVOS_MIN_INTERVAL - 1
+		&& counts(&other.clock, 1) && gained(other.clock) == 1000 * HEUKELVOS_MIN_INTERVAL;
 }
 
 /* A refused tick leaves the lent clock as it was. */
@@ -600,6 +629,7 @@ int main(int argc, char **argv)
 	check("a million ticks in place, and by value, through each leap", both(million_ticks));
 	check("how many ticks a second has", both(seconds_of_ticks));
 	check("the rollovers since an offset: ticks in place, leaps, the limit, offsets and settings", both(intervals));
+	check("offsets that come too soon", both(too_soon));
 	check("ticks that are refused", both(refused_ticks));
 	check("catch-ups at their edges: lent, by value, by single ticks", both(edges));
 	check("200,000 catch-ups of random clocks: lent, by value, by single ticks", random_runs());

@@ -70,7 +70,7 @@ fn mix_outcome(sum: u64, o: Outcome) -> u64 {
     mix(mix(sum, o.refusal as u64), o.clock.status as u64)
 }
 
-// The same clock 64 rollovers later: so the interval that a request takes moves. It stays below 1,024.
+// The same clock 64 rollovers later: so no offset comes too soon, and the interval that a request takes moves. It stays below 1,024.
 fn later(c: Clock) -> Clock {
     Clock {
         seconds: ((c.seconds as u64 + 64) % 4294967296) as u32,
@@ -86,7 +86,7 @@ pub(crate) struct Requested {
 }
 
 pub(crate) fn after_requests(values: &[u64; 64], count: u64) -> Requested {
-    let mut c = begun(values, KIND_256);
+    let mut c = later(begun(values, KIND_256));
     let mut sum: u64 = 0;
     let mut i: u64 = 0;
     while i < count {
