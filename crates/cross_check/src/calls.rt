@@ -1,9 +1,11 @@
 // One case of each kind of event on the clock, run by both implementations.
+use crate::devices::rate;
 use crate::devices::to_tick;
 use crate::first::same_event;
 use crate::first::same_start;
 use crate::first::same_ticks;
 use crate::form::ROW;
+use crate::many::Many;
 use crate::many::event;
 use crate::many::ticks;
 use crate::random::catch_up_row;
@@ -12,22 +14,36 @@ use crate::random::row;
 use crate::random::state;
 use crate::rules::State;
 use crate::rules::begin;
+use crate::rules::times;
+use crate::signed::least;
 use crate::signed::minus;
 use crate::signed::pick;
+use crate::signed::plus;
 
-// The refusal that the second implementation gave, and whether the first gave the same answer.
+// The refusal that the second implementation gave, and whether the first gave the same answer; of a list, how many offsets it accepted on a
+// clock with an earlier update: neither the first of the list, nor the first after a setting.
 pub(crate) struct Verdict {
     pub(crate) refusal: u64,
     pub(crate) same: bool,
+    pub(crate) offsets: u64,
+}
+
+// Of a case that is no list.
+pub(crate) fn verdict_of(refusal: u64, same: bool) -> Verdict {
+    Verdict {
+        refusal: refusal,
+        same: same,
+        offsets: 0,
+    }
 }
 
 // What both answer to an event.
 fn compared(s: State, row: &[u64; ROW]) -> Verdict {
     let m = event(s, row);
-    Verdict {
-        refusal: pick(m.refusal == 0, m.tick_refusal, m.refusal),
-        same: same_event(s, row, m),
-    }
+    verdict_of(
+        pick(m.refusal == 0, m.tick_refusal, m.refusal),
+        same_event(s, row, m),
+    )
 }
 
 // An event of a code, on a clock that need not be sound.
@@ -67,32 +83,48 @@ fn some_code(case: u64) -> u64 {
 pub(crate) fn start(case: u64) -> Verdict {
     let kind = case % 256;
     let a = begin(kind);
-    Verdict {
-        refusal: a.refusal,
-        same: same_start(kind, a),
+    verdict_of(a.refusal, same_start(kind, a))
+}
+
+// The ticks after which 62 to 66 rollovers lie behind the clock's last offset, or about as many: the next one is accepted from 64 on. Of kind 1
+// one call makes no more than 64 of them.
+fn about_64(s: State, v: u64) -> [u64; ROW] {
+    let wanted = minus(62 + v % 5, s.since);
+    catch_up_row(least(times(wanted, rate(s.kind)), 65536), 0)
+}
+
+// An event of a list, on the clock that it meets. Three in four of the catch-ups lead to where the next offset is accepted, or just not.
+fn some_event(case: u64, s: State) -> [u64; ROW] {
+    let code = some_code(case);
+    let v = draw(case, 89);
+    match pick((code == 4) & (v % 4 < 3), 1, 0) {
+        1 => about_64(s, v / 4),
+        _ => row(case, code),
     }
+}
+
+// 1 where an event was an offset that is accepted on a clock with an earlier update, else 0.
+fn offset_again(s: State, row: &[u64; ROW], m: Many) -> u64 {
+    let offset = (row[0] == 2) & (row[1] % 2 == 1);
+    pick(offset & (s.flag == 1) & (m.refusal == 0), 1, 0)
 }
 
 // A list of 5,000 events from a fresh clock, of one kind and the other in turn. Its refusal is the last one that an event gave.
 pub(crate) fn list(case: u64) -> Verdict {
     let a = begin(case % 2);
     let mut s = a.state;
-    let mut same = same_start(case % 2, a);
-    let mut refusal: u64 = 0;
+    let mut v = verdict_of(0, same_start(case % 2, a));
     let mut k: u64 = 0;
     while k < 5000 {
-        let c = case % 65536 * 5000 + k;
-        let row = row(c, some_code(c));
+        let row = some_event(case % 65536 * 5000 + k, s);
         let m = event(s, &row);
-        same = same & same_event(s, &row, m);
-        refusal = pick(m.refusal == 0, refusal, m.refusal);
+        v.same = v.same & same_event(s, &row, m);
+        v.refusal = pick(m.refusal == 0, v.refusal, m.refusal);
+        v.offsets = plus(v.offsets, offset_again(s, &row, m));
         s = m.state;
         k += 1;
     }
-    Verdict {
-        refusal: refusal,
-        same: same,
-    }
+    v
 }
 
 // Up to 700 ticks in one call, half of the time up to 2,800, of a clock that need not be sound.
@@ -101,8 +133,5 @@ pub(crate) fn many_ticks(case: u64) -> Verdict {
     let v = draw(case, 83);
     let n = pick(v % 2 == 0, v / 2 % 2801, v / 2 % 701);
     let a = ticks(s, n);
-    Verdict {
-        refusal: a.refusal,
-        same: same_ticks(s, n, a),
-    }
+    verdict_of(a.refusal, same_ticks(s, n, a))
 }

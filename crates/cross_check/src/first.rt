@@ -212,6 +212,7 @@ fn same_limits() -> bool {
     same = same & (u.phase == 268435456) & (u.offset == 16384) & (u.frequency == 16777216);
     let r = playback::run_limits();
     same = same & (r.history == 65536) & (r.line == 30) & (clock::MAX_CEILING == 65536);
+    same = same & (l.interval == 1024) & (request::MIN_INTERVAL == 64);
     same & (u.second == 1000000) & (u.day == 86400)
 }
 

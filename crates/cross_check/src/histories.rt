@@ -1,5 +1,6 @@
 // One history, run by both implementations.
 use crate::calls::Verdict;
+use crate::calls::verdict_of;
 use crate::first::same_begun;
 use crate::first::same_replay;
 use crate::form::ROW;
@@ -86,10 +87,10 @@ pub(crate) fn replay(case: u64) -> Verdict {
     let mut from = begun(s, whole.end);
     from.over = v / 128 % 16 == 0;
     let room = pick(short, v / 2048 % 30, 30 + v / 2048 % 35) as usize;
-    Verdict {
-        refusal: pick(from.over, 0, pick(short, 14, whole.refusal)),
-        same: run_both(bytes, from, room),
-    }
+    verdict_of(
+        pick(from.over, 0, pick(short, 14, whole.refusal)),
+        run_both(bytes, from, room),
+    )
 }
 
 // A history of 65,536 or 65,537 bytes of a code that is none.
@@ -100,8 +101,5 @@ pub(crate) fn long(case: u64) -> Verdict {
     let from = begun(fresh(0), end);
     let room = (30 + case % 35) as usize;
     let same = same_begun(from) & same_replay(&bytes[..end], [4u8; 64], from, room);
-    Verdict {
-        refusal: 12 + n,
-        same: same,
-    }
+    verdict_of(12 + n, same)
 }

@@ -1,5 +1,6 @@
 // One case of writing and reading a label, run by both implementations.
 use crate::calls::Verdict;
+use crate::calls::verdict_of;
 use crate::dates::PRINT;
 use crate::dates::clock_stamp;
 use crate::dates::date_of;
@@ -23,10 +24,10 @@ fn written(s: State, room: usize, fill: u8) -> Verdict {
     let w = write_label(s, fill, room);
     let buf = w.text;
     let size = pick(refusal == 0, 20, 0) as usize;
-    Verdict {
-        refusal: refusal,
-        same: (refusal == w.refusal) & stands(&buf, fill, &text, size),
-    }
+    verdict_of(
+        refusal,
+        (refusal == w.refusal) & stands(&buf, fill, &text, size),
+    )
 }
 
 // A clock's label, mostly with room for it.
@@ -38,10 +39,7 @@ pub(crate) fn write(case: u64) -> Verdict {
 
 fn read_both(text: [u8; 64], size: usize) -> Verdict {
     let mine = crate::dates::read(&text, size);
-    Verdict {
-        refusal: mine.refusal,
-        same: same_label(text, size, mine),
-    }
+    verdict_of(mine.refusal, same_label(text, size, mine))
 }
 
 // A label's text, of a second also somewhat past the last one that a clock can hold; once in 4 of a day's last second, which reads 60.
@@ -82,8 +80,8 @@ pub(crate) fn day(case: u64) -> Verdict {
     s.status = 3;
     let w = written(s, 24, 0);
     let r = read_both(label_of(s.seconds, false), 20);
-    Verdict {
-        refusal: r.refusal,
-        same: w.same & r.same & same_date(s.seconds, date_of(s.seconds)),
-    }
+    verdict_of(
+        r.refusal,
+        w.same & r.same & same_date(s.seconds, date_of(s.seconds)),
+    )
 }

@@ -1,8 +1,9 @@
 // Runs a second implementation of documents 01 and 02 beside the first, over pseudo-random and edge cases, and compares every answer to the last bit.
 // One line for each group says how many cases were compared, how many differ, and how often the second implementation gave each answer:
-// 0 for accepted, else the number of the refusal, of the call or of the tick that ended a catch-up. The last line is the verdict: it ends in
-// `the two agree` where every group has cases and none of them differs; else it begins with `cross_check: DIFFER` and names the other groups,
-// with how many cases differ of how many.
+// 0 for accepted, else the number of the refusal, of the call or of the tick that ended a catch-up. Of lists it also says how many offsets
+// were accepted where there was an earlier one. The last line is the verdict: it ends in `the two agree` where every group has cases and none
+// of them differs, and there were 1,000 such offsets; else it begins with `cross_check: DIFFER` and names the other groups, with how many
+// cases differ of how many, or with `cross_check: TOO FEW` and says how many offsets there were.
 mod calls;
 mod dates;
 mod devices;
@@ -25,6 +26,12 @@ use libc::STDOUT_FILENO;
 
 // Differences told one by one in each group; the others are only counted.
 const TOLD: u64 = 5;
+
+// How many answers there can be: accepted, and the refusals 1 to 17.
+const ANSWERS: usize = 18;
+
+// The fewest offsets of all lists that are accepted where there was an earlier one: their gain is what the interval moves.
+const FEWEST: u64 = 1000;
 
 // How many groups there are.
 const GROUPS: usize = 21;
@@ -142,24 +149,33 @@ fn tell_answer(number: u64, times: u64) {
 }
 
 // How often each answer was given.
-fn tell_answers(met: &[u64; 17]) {
+fn tell_answers(met: &[u64; ANSWERS]) {
     let mut k: usize = 0;
-    while k < 17 {
+    while k < ANSWERS {
         tell_answer(k as u64, met[k]);
         k += 1;
     }
-    end_line();
 }
 
-// How many cases were compared, and how many of them differ.
+// Of a group of lists.
+fn tell_offsets(offsets: u64) {
+    if offsets == 0 {
+        return;
+    }
+    io::write_all(STDOUT_FILENO, b"; offsets accepted after an earlier one: ");
+    io::print_decimal(STDOUT_FILENO, offsets);
+}
+
+// How many cases were compared, how many of them differ, and the offsets of their lists.
 struct Tally {
     compared: u64,
     differ: u64,
+    offsets: u64,
 }
 
 // The counts after one more case.
-fn noted(group: u64, case: u64, v: Verdict, met: &mut [u64; 17], t: Tally) -> Tally {
-    let k = (v.refusal % 17) as usize;
+fn noted(group: u64, case: u64, v: Verdict, met: &mut [u64; ANSWERS], t: Tally) -> Tally {
+    let k = (v.refusal % 18) as usize;
     met[k] = plus(met[k], 1);
     match pick(v.same | (TOLD <= t.differ), 0, 1) {
         0 => (),
@@ -168,16 +184,18 @@ fn noted(group: u64, case: u64, v: Verdict, met: &mut [u64; 17], t: Tally) -> Ta
     Tally {
         compared: plus(t.compared, 1),
         differ: plus(t.differ, pick(v.same, 0, 1)),
+        offsets: plus(t.offsets, v.offsets),
     }
 }
 
 // All cases of a group.
 fn run(group: u64) -> Tally {
     let n = cases_of(group);
-    let mut met = [0u64; 17];
+    let mut met = [0u64; ANSWERS];
     let mut t = Tally {
         compared: 0,
         differ: 0,
+        offsets: 0,
     };
     let mut i: u64 = 0;
     while i < n {
@@ -186,6 +204,8 @@ fn run(group: u64) -> Tally {
     }
     tell_counts(group, t);
     tell_answers(&met);
+    tell_offsets(t.offsets);
+    end_line();
     t
 }
 
@@ -232,8 +252,19 @@ fn tell_agreement(cases: u64, groups: u64) {
     io::write_all(STDOUT_FILENO, b" groups, 0 differ: the two agree\n");
 }
 
-// The last line. The two agree where every group does.
-fn tell_verdict(compared: &[u64; GROUPS], differ: &[u64; GROUPS]) {
+fn tell_too_few(offsets: u64) {
+    io::write_all(
+        STDOUT_FILENO,
+        b"cross_check: TOO FEW offsets accepted after an earlier one: ",
+    );
+    io::print_decimal(STDOUT_FILENO, offsets);
+    io::write_all(STDOUT_FILENO, b" of ");
+    io::print_decimal(STDOUT_FILENO, FEWEST);
+    end_line();
+}
+
+// The last line. The two agree where every group does, and there were enough offsets.
+fn tell_verdict(compared: &[u64; GROUPS], differ: &[u64; GROUPS], offsets: u64) {
     let mut cases: u64 = 0;
     let mut agreeing: u64 = 0;
     let mut k: usize = 0;
@@ -242,8 +273,9 @@ fn tell_verdict(compared: &[u64; GROUPS], differ: &[u64; GROUPS]) {
         agreeing = plus(agreeing, pick(agrees(compared[k], differ[k]), 1, 0));
         k += 1;
     }
-    match pick(agreeing == GROUPS as u64, 1, 0) {
+    match pick(agreeing == GROUPS as u64, pick(offsets < FEWEST, 2, 1), 0) {
         1 => tell_agreement(cases, agreeing),
+        2 => tell_too_few(offsets),
         _ => tell_differences(compared, differ),
     }
 }
@@ -252,12 +284,14 @@ fn main() {
     tell_head();
     let mut compared = [0u64; GROUPS];
     let mut differ = [0u64; GROUPS];
+    let mut offsets: u64 = 0;
     let mut k: usize = 0;
     while k < GROUPS {
         let t = run(k as u64);
         compared[k] = t.compared;
         differ[k] = t.differ;
+        offsets = plus(offsets, t.offsets);
         k += 1;
     }
-    tell_verdict(&compared, &differ);
+    tell_verdict(&compared, &differ, offsets);
 }

@@ -1,5 +1,6 @@
 // One case of reading, writing and mapping numbers, run by both implementations.
 use crate::calls::Verdict;
+use crate::calls::verdict_of;
 use crate::first::Wrote;
 use crate::first::same_mapping;
 use crate::first::same_number;
@@ -43,10 +44,7 @@ pub(crate) fn read(case: u64) -> Verdict {
     let at = some_place(case);
     let end = (draw(case, 341) % 65) as usize;
     let mine = crate::form::read(&bytes, end, at);
-    Verdict {
-        refusal: mine.refusal,
-        same: same_number(bytes, end, at, mine),
-    }
+    verdict_of(mine.refusal, same_number(bytes, end, at, mine))
 }
 
 // What the first wrote and answered, beside the second's refusal and draft.
@@ -56,10 +54,7 @@ pub(crate) fn agree(w: Wrote, refusal: u64, fill: u8, d: Draft) -> Verdict {
     let accepted = refusal == 0;
     let mut same = (refusal == w.refusal) & (w.next as u64 == pick(accepted, d.next as u64, 0));
     same = same & stands(&buf, fill, &text, pick(accepted, 64, 0) as usize);
-    Verdict {
-        refusal: refusal,
-        same: same,
-    }
+    verdict_of(refusal, same)
 }
 
 // The mask of the first `count` numbers.
@@ -115,8 +110,5 @@ pub(crate) fn map(case: u64) -> Verdict {
         minus(18446744073709551615, n / 8 % 3),
         draw(case, 362),
     );
-    Verdict {
-        refusal: 0,
-        same: same_mapping(n, m, d.next),
-    }
+    verdict_of(0, same_mapping(n, m, d.next))
 }

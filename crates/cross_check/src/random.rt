@@ -91,8 +91,8 @@ fn adjustment(case: u64, kind: u64) -> u64 {
     }
 }
 
-// What follows the flag of an earlier update, up to `limit`: anything up to it, often near its ends, once in 16 above it; where the flag is
-// 0, 0, and once in 16 1.
+// What follows the flag of an earlier update, up to `limit`: anything up to it, often near its ends or about 64, once in 16 above it; where the
+// flag is 0, 0, and once in 16 1.
 pub(crate) fn since(case: u64, flag: u64, limit: u64) -> u64 {
     let v = draw(case, 23);
     let n = v / 16;
@@ -101,6 +101,7 @@ pub(crate) fn since(case: u64, flag: u64, limit: u64) -> u64 {
         0 => plus(limit, 1 + n % 3),
         1 | 2 | 3 => minus(limit, n % 3),
         4 => n % 3,
+        5 | 6 => 62 + n % 4,
         _ => n % (limit % 4294967296 + 1),
     }
 }

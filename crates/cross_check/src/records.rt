@@ -1,5 +1,6 @@
 // One case of writing and reading a record, run by both implementations.
 use crate::calls::Verdict;
+use crate::calls::verdict_of;
 use crate::first::same_record;
 use crate::first::write_record;
 use crate::form::ROW;
@@ -85,10 +86,7 @@ fn read_record(bytes: &[u8; 64], end: usize) -> Answer {
 fn compared(b: Bytes) -> Verdict {
     let bytes = b.bytes;
     let a = read_record(&bytes, b.end);
-    Verdict {
-        refusal: a.refusal,
-        same: same_record(bytes, b.end, a),
-    }
+    verdict_of(a.refusal, same_record(bytes, b.end, a))
 }
 
 pub(crate) fn read(case: u64) -> Verdict {

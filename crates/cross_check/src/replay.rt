@@ -50,26 +50,27 @@ struct Line {
     skip: usize,
 }
 
-fn refused_line(refusal: u64) -> Line {
+fn whole_line(text: [u8; 64], size: usize) -> Line {
     Line {
-        text: filled(
-            *b"refused 0\n......................................................",
-            9,
-            refusal,
-        ),
-        size: 10,
+        text: text,
+        size: size,
         skip: 0,
+    }
+}
+
+fn refused_line(refusal: u64) -> Line {
+    let one = *b"refused 0\n......................................................";
+    let two = *b"refused 00\n.....................................................";
+    match pick(refusal < 10, 1, 2) {
+        1 => whole_line(filled(one, 9, refusal), 10),
+        _ => whole_line(filled(two, 10, refusal), 11),
     }
 }
 
 // Label, microseconds and status.
 fn print_line(s: State) -> Line {
     let tail = filled(PRINT, 29, s.micros % 1000000 * 10 + s.status % 10);
-    Line {
-        text: filled(tail, 20, clock_stamp(s)),
-        size: 30,
-        skip: 0,
-    }
+    whole_line(filled(tail, 20, clock_stamp(s)), 30)
 }
 
 // The line of bytes that are no event: its place has as many digits as it needs.

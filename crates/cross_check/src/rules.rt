@@ -231,9 +231,15 @@ fn chosen(row: &[u64; ROW], k: usize, bit: u64, old: u64) -> u64 {
     pick((row[1] & bit) == 0, old, row[k % ROW])
 }
 
-// The lowest of 4 to 9 that applies, or 0. A request is a row: code, mode, then the fields in order of mode bit.
-fn judged(row: &[u64; ROW]) -> u64 {
-    let mut refusal = pick(4 < chosen(row, 7, 32, 0), 9, 0);
+// The rollovers that a request has to wait for after the last offset: none that selects no offset, or where there was none before.
+fn wait(s: State, row: &[u64; ROW]) -> u64 {
+    pick(row[1] % 2 == 0, 0, s.flag % 2 * 64)
+}
+
+// The first of 4 to 9 and 17 that applies, or 0. A request is a row: code, mode, then the fields in order of mode bit.
+fn judged(s: State, row: &[u64; ROW]) -> u64 {
+    let mut refusal = pick(s.since < wait(s, row), 17, 0);
+    refusal = pick(4 < chosen(row, 7, 32, 0), 9, refusal);
     refusal = pick(4 < chosen(row, 6, 16, 0), 8, refusal);
     refusal = pick(16000000 < chosen(row, 5, 8, 0), 7, refusal);
     refusal = pick(16000000 < chosen(row, 4, 4, 0), 7, refusal);
@@ -254,7 +260,7 @@ fn plain_effects(s: State, row: &[u64; ROW]) -> State {
     t
 }
 
-fn times(a: u64, b: u64) -> u64 {
+pub(crate) fn times(a: u64, b: u64) -> u64 {
     a % 131072 * (b % 2048)
 }
 
@@ -281,7 +287,7 @@ fn offset_effects(s: State, n: u64, writes_bad: bool) -> State {
 }
 
 fn adjust(s: State, row: &[u64; ROW]) -> Answer {
-    let refusal = judged(row);
+    let refusal = judged(s, row);
     let t = plain_effects(s, row);
     match pick(refusal == 0, row[1] % 2, 2) {
         0 => Answer {

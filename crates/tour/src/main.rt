@@ -54,6 +54,12 @@ fn main() {
     let second = clock::run_ticks(first.clock, TICKS);
     show_clock(b"another 256 ticks later", second.clock);
 
+    // From one offset to the next at least 64 seconds have to end, or a faulty source would have the clock chase it. Only two have: the
+    // request is refused whole, its frequency too.
+    let again = request::adjust(second.clock, asked);
+    show_refusal(b"the same asked for again", again.refusal);
+    show_clock(b"  which gives", again.clock);
+
     // Many ticks in one call, for a recorder that has slept. A clock is a value: each of these begins with the same one.
     asleep::to_the_next_second(second.clock);
     asleep::night_asleep(second.clock);

@@ -49,6 +49,7 @@ pub(crate) fn show_refusal(what: &[u8], n: u8) {
         12 => say(b", the version is unknown or a field out of its range\n"),
         13 => say(b", bytes follow the record\n"),
         16 => say(b", more than 65,536 ticks asked for\n"),
+        17 => say(b", an offset fewer than 64 rollovers after the last one\n"),
         _ => say(b"\n"),
     }
 }

@@ -5,10 +5,10 @@ use Rattle.cross_check.proofs.main.Statement.{statement}
 use Rattle.cross_check.proofs.main.Tie as tie
 
 abbrev Inv-loop : tie.InvT-loop
-Inv-loop compared₀ differ₀ k₀ compared differ k = k ≤ 21
+Inv-loop compared₀ differ₀ offsets₀ k₀ compared differ offsets k = k ≤ 21
 
 abbrev μ-loop : tie.MeasureT-loop
-μ-loop compared₀ differ₀ k₀ compared differ k = 21 - k
+μ-loop compared₀ differ₀ offsets₀ k₀ compared differ offsets k = 21 - k
 
 tell-head-requires : tie.Need-tell-head-requires Inv-loop μ-loop
 tell-head-requires c κs = search needs
@@ -30,6 +30,9 @@ mul-differ c = search needs
 
 array-write-differ : tie.Need-array-write-differ Inv-loop μ-loop
 array-write-differ c = search needs
+
+plus-requires : tie.Need-plus-requires Inv-loop μ-loop
+plus-requires c κs = search needs
 
 add-k : tie.Need-add-k Inv-loop μ-loop
 add-k c = search needs
@@ -59,6 +62,7 @@ main-spec =
     array-write-compared
     mul-differ
     array-write-differ
+    plus-requires
     add-k
     loop-less
     loop-again

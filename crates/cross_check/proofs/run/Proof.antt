@@ -37,6 +37,12 @@ tell-counts-requires c κs = search needs
 tell-answers-requires : tie.Need-tell-answers-requires Inv-loop μ-loop
 tell-answers-requires c κs = search needs
 
+tell-offsets-requires : tie.Need-tell-offsets-requires Inv-loop μ-loop
+tell-offsets-requires c κs = search needs
+
+end-line-requires : tie.Need-end-line-requires Inv-loop μ-loop
+end-line-requires c κs = search needs
+
 returns : tie.Need-returns Inv-loop μ-loop
 returns c = search needs
 
@@ -55,4 +61,6 @@ run-spec =
     loop-again
     tell-counts-requires
     tell-answers-requires
+    tell-offsets-requires
+    end-line-requires
     returns)

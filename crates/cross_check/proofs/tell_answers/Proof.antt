@@ -5,10 +5,10 @@ use Rattle.cross_check.proofs.tell_answers.Statement.{statement}
 use Rattle.cross_check.proofs.tell_answers.Tie as tie
 
 abbrev Inv-loop : tie.InvT-loop
-Inv-loop met k₀ k = k ≤ 17
+Inv-loop met k₀ k = k ≤ 18
 
 abbrev μ-loop : tie.MeasureT-loop
-μ-loop met k₀ k = 17 - k
+μ-loop met k₀ k = 18 - k
 
 loop-holds : tie.Need-loop-holds Inv-loop μ-loop
 loop-holds c = search needs
@@ -31,9 +31,6 @@ loop-less c = search needs
 loop-again : tie.Need-loop-again Inv-loop μ-loop
 loop-again c = search needs
 
-end-line-requires : tie.Need-end-line-requires Inv-loop μ-loop
-end-line-requires c κs = search needs
-
 returns : tie.Need-returns Inv-loop μ-loop
 returns c = search needs
 
@@ -50,5 +47,4 @@ tell-answers-spec =
     add-k
     loop-less
     loop-again
-    end-line-requires
     returns)

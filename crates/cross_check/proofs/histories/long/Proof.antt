@@ -29,8 +29,11 @@ slice-aggregate-same-replay c = simp length-take (omega arith)
 same-replay-requires : tie.Need-same-replay-requires
 same-replay-requires c κs = search needs
 
-add-t8 : tie.Need-add-t8
-add-t8 c = search needs
+add-verdict-of : tie.Need-add-verdict-of
+add-verdict-of c = search needs
+
+verdict-of-requires : tie.Need-verdict-of-requires
+verdict-of-requires c κs = search needs
 
 returns : tie.Need-returns
 returns c = search needs
@@ -47,5 +50,6 @@ long-spec =
     array-share-prefix-bytes
     slice-aggregate-same-replay
     same-replay-requires
-    add-t8
+    add-verdict-of
+    verdict-of-requires
     returns)
