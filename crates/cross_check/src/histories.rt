@@ -17,10 +17,11 @@ use crate::rules::State;
 use crate::rules::fresh;
 use crate::signed::pick;
 
-// Mostly up to 600 ticks, once in 8 up to 4,096.
+// Mostly up to 600 ticks, once in 8 up to 4,096, and once in 32 about 64 seconds of them, after which an offset is accepted again.
 fn tick_count(case: u64) -> u64 {
     let v = draw(case, 600);
-    pick(v % 8 == 0, v / 8 % 4097, v / 8 % 600)
+    let some = pick(v % 32 == 1, 16300 + v / 32 % 200, v / 8 % 600);
+    pick(v % 8 == 0, v / 8 % 4097, some)
 }
 
 // An event of a history. Small offsets and statuses alone are frequent: they lead a clock to its leap seconds.
