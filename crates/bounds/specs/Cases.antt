@@ -1,5 +1,5 @@
--- "Marked cases (proved together)", the two edges at the last second, and the interval and the second device of document 02: a table with a
--- row for each, and what it means that a row holds. A row starts at a fresh clock of kind 0, or of the kind that it names, but for the fields
+-- "Marked cases (proved together)", the two edges at the last second, and the interval, the second device and an offset too soon of document 02: a
+-- table with a row for each, and what it means that a row holds. A row starts at a fresh clock of kind 0, or of the kind that it names, but for the fields
 -- that it names. Where it says "rollover", ticks are made up to and with the next that rolls over.
 use Prim.Native.Nat.{ℕ, zero, suc, _+_}
 use mathlib.Core.Path.{_≡_}
@@ -239,8 +239,8 @@ set s u = call.Setting s (record { 0 = u })
 
 -- The table of document 01, row by row ("frequency unchanged" at two frequencies; document 02: "the marked interval 5,000 becomes 1,024"),
 -- after it the two edges, and then document 02's: the interval across an inserted and a deleted second, up to its limit, and none without an
--- offset or after a setting; an offset a rollover too soon, which leaves it, and in time, which sets it back; and the second device by the
--- rows of the first, its kind kept by a setting, and no third.
+-- offset or after a setting; the second device by the rows of the first, its kind kept by a setting, and no third; and an offset a rollover too
+-- soon, which leaves the interval, and in time, which sets it back.
 abbrev pub markedCases : List Case
 markedCases =
     row []
@@ -291,12 +291,6 @@ markedCases =
     ∷ callOf asksNothing then (refusal 0 ∷ updated is 1 ∷ interval is 1 ∷ [])
     ∷ callOf (set 0 0) then (refusal 0 ∷ updated is 0 ∷ interval is 0 ∷ [])
     ∷ callOf (asks (pos 1000)) then (refusal 0 ∷ updated is 1 ∷ interval is 0 ∷ []) ∷ [])
-    ∷ row (updated ≔ 1 ∷ interval ≔ 63 ∷ [])
-    (callOf (asks (pos 1000)) then (refusal 17 ∷ left isℤ pos 0 ∷ updated is 1 ∷ interval is 63 ∷ [])
-    ∷ callOf (asksAt 5 (pos 1000)) then (refusal 9 ∷ [])
-    ∷ callOf asksNothing then (refusal 0 ∷ interval is 63 ∷ [])
-    ∷ rollover then (interval is 64 ∷ [])
-    ∷ callOf (asks (pos 1000)) then (refusal 0 ∷ left isℤ pos 16384000 ∷ frequency isℤ pos 64000 ∷ interval is 0 ∷ []) ∷ [])
     ∷ row (kind ≔ kind1024 ∷ [])
     (tickTimes 1023 then (seconds is 0 ∷ micros 999023 ∷ phase isℤ pos 117440512 ∷ []) ∷ [])
     ∷ row (kind ≔ kind1024 ∷ [])
@@ -317,6 +311,12 @@ markedCases =
     (callOf (set 5 0) then (refusal 0 ∷ kind is kind1024 ∷ adjustment isℤ pos 150995044 ∷ []) ∷ [])
     ∷ row (kind ≔ 2 ∷ [])
     (callOf (set 5 0) then (refusal 1 ∷ kind is 2 ∷ seconds is 0 ∷ []) ∷ [])
+    ∷ row (updated ≔ 1 ∷ interval ≔ 63 ∷ [])
+    (callOf (asks (pos 1000)) then (refusal 17 ∷ left isℤ pos 0 ∷ updated is 1 ∷ interval is 63 ∷ [])
+    ∷ callOf (asksAt 5 (pos 1000)) then (refusal 9 ∷ [])
+    ∷ callOf asksNothing then (refusal 0 ∷ interval is 63 ∷ [])
+    ∷ rollover then (interval is 64 ∷ [])
+    ∷ callOf (asks (pos 1000)) then (refusal 0 ∷ left isℤ pos 16384000 ∷ frequency isℤ pos 64000 ∷ interval is 0 ∷ []) ∷ [])
     ∷ []
 
 abbrev pub MarkedCases : Type 0
