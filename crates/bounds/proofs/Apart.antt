@@ -1,33 +1,26 @@
 -- Two accepted offsets of a list: the second finds in the clock no more rollovers than lie between them, and no fewer than 64.
-use mathlib.Core.Path.{_≡_, refl, sym, ap, _∙_}
+use mathlib.Core.Path.{_≡_, refl, sym, ap}
 use mathlib.Core.Bool.{Bool, true, false, not, cond, true≢false}
 use mathlib.Core.List.{List, [], _∷_, _++_}
 use Prim.Native.Nat.{ℕ, _+_, _≤_, min}
 use native.Mathlib.Omega.{arith}
 use borrow.Author.Tests.{not-true}
 use Rattle.integers.proofs.Ranges.{and-true}
-use Rattle.state.specs.State.{freshClock, Update, updateOf, longestInterval}
+use Rattle.state.specs.State.{Update, updateOf, longestInterval}
 use Rattle.state.specs.declared.state.Clock.{Clock}
 use Rattle.request.specs.Request.{selectsOffset}
 use Rattle.request.specs.declared.request.Request.{Request}
 use Rattle.request.proofs.RequestCases as req
-use Rattle.event.specs.Event.{stepOf}
 use Rattle.event.specs.declared.event.Call.{Call}
 use Rattle.event.specs.declared.event.Call.the-variants as call
-use Rattle.event.specs.declared.event.Event.{Event}
 use Rattle.event.specs.declared.event.Event.the-variants as event
-use Rattle.bounds.specs.Calls.{next, afterBy, after, clockAfter, accepted, takesOffset, sets, rolls, countAmong, noneAmong, rolloversAmong, neverSet}
+use Rattle.bounds.specs.Calls.{next, after, clockAfter, accepted, takesOffset, sets, rolls, countAmong, noneAmong, rolloversAmong, neverSet}
 use Rattle.bounds.specs.Singly.{singlyFrom}
-use Rattle.bounds.specs.Interval.{Since, callSince, sinceFrom, sinceOf, heldUpdate}
+use Rattle.bounds.specs.Interval.{Since, justTaken, callSince, sinceFrom, sinceOf, heldUpdate}
 use Rattle.bounds.specs.Apart.{OffsetsApartInEveryList}
 use Rattle.bounds.proofs.Exact.{not-zero}
-use Rattle.bounds.proofs.Runs.{after-append}
-use Rattle.bounds.proofs.Singly.{after-singly}
+use Rattle.bounds.proofs.Singly.{clock-last, clock-then}
 use Rattle.bounds.proofs.Interval.{step-held, run-held, interval}
-
--- no rollover since an accepted offset
-abbrev justTaken : Since
-justTaken = record { offset = true; rollovers = 0 }
 
 -- an offset was accepted, and at most `most` rollovers have come since
 record SinceAtMost (n : Since) (most : ℕ) : Type 0 where
@@ -65,28 +58,14 @@ least-found c n r (req.done a e) h o t =
     let selected = and-true (accepted c (call.Request r)) (selectsOffset r) t .1 in
     omega (arith, ap (λ (u : Update). u .interval) k, a .spaced selected (ap (λ (u : Update). u .updated) k))
 
-module _ (kind : ℕ) (before : List Event) (r : Request) where
-  -- the clock after the first of the two
-  clock-taken : clockAfter kind (before ++ (event.Call (call.Request r) ∷ [])) ≡ next (clockAfter kind before) (call.Request r)
-  unfolding afterBy
-  clock-taken = after-append stepOf (freshClock kind) before (event.Call (call.Request r) ∷ [])
-
-  clock-then : (between : List Event)
-      → let c = next (clockAfter kind before) (call.Request r) in
-      clockAfter kind (before ++ (event.Call (call.Request r) ∷ between)) ≡ after c (singlyFrom c between)
-  unfolding afterBy
-  clock-then between =
-      after-append stepOf (freshClock kind) before (event.Call (call.Request r) ∷ between)
-      ∙ after-singly (next (clockAfter kind before) (call.Request r)) between
-
-  update-taken : takesOffset (clockAfter kind before) r ≡ true → updateOf (next (clockAfter kind before) (call.Request r)) ≡ heldUpdate justTaken
-  update-taken t = simp t at (step-held (clockAfter kind before) (sinceOf kind before) (interval kind before) (call.Request r))
-
 pub apart : OffsetsApartInEveryList
 apart kind events before between later r s e t u h =
-    let c = next (clockAfter kind before) (call.Request r) in
+    let b = clockAfter kind before in
+    let c = next b (call.Request r) in
     let es = singlyFrom c between in
-    let held = run-held c justTaken es (update-taken kind before r t) in
-    let since = run-since c justTaken es refl (rw (clock-taken kind before r) at h) in
-    let least = least-found (after c es) (sinceFrom c justTaken es) s (req.requestCase (after c es) s) held (since .offset) (rw (clock-then kind before r between) at u) in
-    rw (clock-taken kind before r) (omega (arith, least, since .rollovers))
+    let last : clockAfter kind (before ++ (event.Call (call.Request r) ∷ [])) ≡ c = clock-last kind before (event.Call (call.Request r)) in
+    let then : clockAfter kind (before ++ (event.Call (call.Request r) ∷ between)) ≡ after c es = clock-then kind before (event.Call (call.Request r)) between in
+    let first : updateOf c ≡ heldUpdate justTaken = simp t at (step-held b (sinceOf kind before) (interval kind before) (call.Request r)) in
+    let since = run-since c justTaken es refl (rw last at h) in
+    let least = least-found (after c es) (sinceFrom c justTaken es) s (req.requestCase (after c es) s) (run-held c justTaken es first) (since .offset) (rw then at u) in
+    rw last (omega (arith, least, since .rollovers))

@@ -31,6 +31,17 @@ singly-append c (e ∷ xs) ys =
     ∙ sym (append-assoc (singleCalls c e) (singlyFrom (stepOf c e .clock) xs) _)
 
 module _ (kind : ℕ) (before : List Event) (e : Event) where
+  -- the clock after an event of a list, and after those behind it
+  pub clock-last : clockAfter kind (before ++ (e ∷ [])) ≡ stepOf (clockAfter kind before) e .clock
+  unfolding afterBy
+  clock-last = after-append stepOf (freshClock kind) before (e ∷ [])
+
+  pub clock-then : (between : List Event)
+      → let c = stepOf (clockAfter kind before) e .clock in
+      clockAfter kind (before ++ (e ∷ between)) ≡ after c (singlyFrom c between)
+  unfolding afterBy
+  clock-then between = after-append stepOf (freshClock kind) before (e ∷ between) ∙ after-singly (stepOf (clockAfter kind before) e .clock) between
+
   singly-last : singly kind (before ++ (e ∷ [])) ≡ singly kind before ++ singleCalls (clockAfter kind before) e
   unfolding singlyFrom
   singly-last =

@@ -1,5 +1,5 @@
 -- Demand 3 holds of every list of events: the invariants of its single calls are those of its clock and book.
-use mathlib.Core.Path.{_≡_, _∙_, ap, subst}
+use mathlib.Core.Path.{_≡_, ap, subst}
 use mathlib.Core.Bool.{true}
 use mathlib.Core.List.{List, [], _∷_, _++_}
 use Prim.Native.Nat.{ℕ, _+_, _*_, _/_, _≤_}
@@ -19,14 +19,14 @@ use Rattle.event.specs.Event.{stepOf}
 use Rattle.event.specs.declared.event.Call.the-variants.{Tick, Reading}
 use Rattle.event.specs.declared.event.Event.{Event}
 use Rattle.event.specs.declared.event.Event.the-variants.{Call}
-use Rattle.bounds.specs.Calls.{afterBy, after, clockAfter, accepted, ticksAmong}
+use Rattle.bounds.specs.Calls.{after, clockAfter, accepted, ticksAmong}
 use Rattle.bounds.specs.Singly.{singleTicks, singlyFrom, singly, asEvents}
 use Rattle.bounds.specs.Measure.{measureOf}
 use Rattle.bounds.specs.Book.{Book, emptyBook, bookFrom}
 use Rattle.bounds.specs.Demand.{bookOf, NearExact, FirstBound, AtRollover, SecondBound, ThirdBound, Demand3OfEveryList}
-use Rattle.bounds.proofs.Runs.{after-append, after-kind, read-ok}
+use Rattle.bounds.proofs.Runs.{after-kind, read-ok}
 use Rattle.bounds.proofs.MeasureLaws.{measured}
-use Rattle.bounds.proofs.Singly.{after-singly, book-last}
+use Rattle.bounds.proofs.Singly.{after-singly, clock-last, clock-then, book-last}
 use Rattle.bounds.proofs.Exact.{told, perPhase, Inv, run-inv, fresh-inv}
 use Rattle.bounds.proofs.Moved.{Paid, run-paid, fresh-paid, paid-bound}
 use Rattle.bounds.proofs.Forward.{forward}
@@ -88,21 +88,13 @@ module _ (kind : ℕ) (h : kindRange kind ≡ true) where
         within = λ before later ceiling stop e j l. at-rollover (before ++ asEvents (singleTicks j));
       }
 
-  -- a reading hands back the clock that it got
-  clock-read : (before : List Event) → clockAfter kind (before ++ (Call Reading ∷ [])) ≡ clockAfter kind before
-  unfolding afterBy
-  clock-read before = after-append stepOf (freshClock kind) before (Call Reading ∷ [])
-
-  clock-then : (before between : List Event) → clockAfter kind (before ++ (Call Reading ∷ between)) ≡ after (clockAfter kind before) (singlyFrom (clockAfter kind before) between)
-  unfolding afterBy
-  clock-then before between = after-append stepOf (freshClock kind) before (Call Reading ∷ between) ∙ after-singly (clockAfter kind before) between
-
   third : (events : List Event) → ThirdBound stepOf kind events
   third events before between later e u =
       let c = clockAfter kind before in
       let es = singlyFrom c between in
-      let q = clock-read before in
-      let t = clock-then before between in
+      -- a reading hands back the clock that it got
+      let q : clockAfter kind (before ++ (Call Reading ∷ [])) ≡ c = clock-last kind before (Call Reading) in
+      let t : clockAfter kind (before ++ (Call Reading ∷ between)) ≡ after c es = clock-then kind before (Call Reading) between in
       let r = read-ok c (inv kind h before .range) in
       let s = read-ok (after c es) (rw t at (inv kind h (before ++ (Call Reading ∷ between)) .range)) in
       let f = forward c (bookOf kind before) es (inv kind h before) (rw q at u) in

@@ -22,11 +22,15 @@ pub record Since : Type 0 where
 abbrev pub noOffset : Since
 noOffset = record { offset = false; rollovers = 0 }
 
+-- an accepted offset, and no rollover since
+abbrev pub justTaken : Since
+justTaken = record { offset = true; rollovers = 0 }
+
 -- one call, of which the rules run at the clock `rules` say whether it is accepted, and whether it rolls over
 abbrev pub callSince : Clock → Call → Since → Since
 callSince rules Tick n = cond (rolls rules Tick) (record { offset = n .offset; rollovers = n .rollovers + 1 }) n
 callSince rules (Setting s u) n = cond (accepted rules (Setting s u)) noOffset n
-callSince rules (Request r) n = cond (takesOffset rules r) (record { offset = true; rollovers = 0 }) n
+callSince rules (Request r) n = cond (takesOffset rules r) justTaken n
 callSince rules Reading n = n
 
 -- some calls, the first of which the rules meet at the clock `rules`
