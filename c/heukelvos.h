@@ -194,8 +194,8 @@ struct heukelvos_counted heukelvos_catch_up(struct heukelvos_clock *clock, uint6
  * heukelvos_adjust     the clock with every selected field's effect, ntp_adjtime() of RFC 1589. An offset (us) moves the frequency by
  *                      offset x interval / 4^constant, within its range, and the interval is then 0. A status is written only where the
  *                      clock is OK or BAD is written; an offset turns BAD to OK, unless the same request writes BAD. An offset fewer
- *                      than 64 rollovers after the last accepted one is refused with 17; after a setting, and on a fresh clock, there is
- *                      none, and the first comes when it comes. Refusals 1, 4, 5, 6, 7, 8, 9, 17
+ *                      than 64 rollovers after the last accepted one is refused with 17; the first on a fresh clock, or after a setting,
+ *                      never is. Refusals 1, 4, 5, 6, 7, 8, 9, 17
  * heukelvos_read       what the clock shows. Refusal 1: the reading is then zeros and status 4
  */
 struct heukelvos_outcome heukelvos_fresh(uint64_t kind);

@@ -392,8 +392,8 @@ static bool refused(Clock c, struct heukelvos_request r, uint8_t refusal)
 }
 
 /*
- * An offset is refused at once after another and up to 63 rollovers later, whatever comes with it, but for a bad time constant, which is
- * judged before. A request without one is accepted, and a rollover later the offset is.
+ * An offset is refused at once after another and up to 63 rollovers later, whatever comes with it; a bad field, as the time constant, is judged
+ * before. A request without one is accepted, and a rollover later the offset is.
  */
 static bool too_soon(int kind)
 {

@@ -1,26 +1,28 @@
--- Two accepted offsets of a list: the second finds in the clock no more rollovers than lie between them, and no fewer than 64.
+-- Two accepted offsets of a list: the second finds in the clock no more rollovers than lie between them, and no fewer than 64. And the clock's
+-- count, which stops at 1,024, judges as all rollovers would.
 use mathlib.Core.Path.{_≡_, refl, sym, ap}
-use mathlib.Core.Bool.{Bool, true, false, not, cond, true≢false}
+use mathlib.Core.Bool.{Bool, true, false, _&&_, not, cond, true≢false}
 use mathlib.Core.List.{List, [], _∷_, _++_}
 use Prim.Native.Nat.{ℕ, _+_, _≤_, min}
 use native.Mathlib.Omega.{arith}
-use borrow.Author.Tests.{not-true}
+use lib.Dec.{ltb, eqb}
+use borrow.Author.Tests.{not-true, lt-ltb, le-ltb, ltb-true, ltb-false}
 use Rattle.integers.proofs.Ranges.{and-true}
 use Rattle.state.specs.State.{Update, updateOf, longestInterval}
 use Rattle.state.specs.declared.state.Clock.{Clock}
-use Rattle.request.specs.Request.{selectsOffset}
+use Rattle.request.specs.Request.{selectsOffset, requested, requestOf}
 use Rattle.request.specs.declared.request.Request.{Request}
 use Rattle.request.proofs.RequestCases as req
 use Rattle.event.specs.declared.event.Call.{Call}
 use Rattle.event.specs.declared.event.Call.the-variants as call
 use Rattle.event.specs.declared.event.Event.the-variants as event
-use Rattle.bounds.specs.Calls.{next, after, clockAfter, accepted, takesOffset, sets, rolls, countAmong, noneAmong, rolloversAmong, neverSet}
+use Rattle.bounds.specs.Calls.{next, after, clockAfter, clockFrom, accepted, takesOffset, sets, rolls, countAmong, noneAmong, rolloversAmong, neverSet}
 use Rattle.bounds.specs.Singly.{singlyFrom}
 use Rattle.bounds.specs.Interval.{Since, justTaken, callSince, sinceFrom, sinceOf, heldUpdate}
-use Rattle.bounds.specs.Apart.{OffsetsApartInEveryList}
+use Rattle.bounds.specs.Apart.{OffsetsApartInEveryList, TooSoonByTheCalls}
 use Rattle.bounds.proofs.Exact.{not-zero}
 use Rattle.bounds.proofs.Singly.{clock-last, clock-then}
-use Rattle.bounds.proofs.Interval.{step-held, run-held, interval}
+use Rattle.bounds.proofs.Interval.{run-held, interval}
 
 -- an offset was accepted, and at most `most` rollovers have come since
 record SinceAtMost (n : Since) (most : ℕ) : Type 0 where
@@ -58,14 +60,36 @@ least-found c n r (req.done a e) h o t =
     let selected = and-true (accepted c (call.Request r)) (selectsOffset r) t .1 in
     omega (arith, ap (λ (u : Update). u .interval) k, a .spaced selected (ap (λ (u : Update). u .updated) k))
 
+-- no rollover has come since an offset that was just accepted, whatever the clock held before
+just-taken : (c : Clock) (r : Request) → req.RequestCase c r → takesOffset c r ≡ true → updateOf (requestOf c r .clock) ≡ heldUpdate justTaken
+unfolding requested
+just-taken c r (req.refused m e z) t = absurd (true≢false (sym (simp (e, not-zero m z) at t)))
+just-taken c r (req.done a e) t = simp (e, and-true (accepted c (call.Request r)) (selectsOffset r) t .1) refl
+
 pub apart : OffsetsApartInEveryList
-apart kind events before between later r s e t u h =
-    let b = clockAfter kind before in
+apart start events before between later r s e t u h =
+    let b = clockFrom start before in
     let c = next b (call.Request r) in
     let es = singlyFrom c between in
-    let last : clockAfter kind (before ++ (event.Call (call.Request r) ∷ [])) ≡ c = clock-last kind before (event.Call (call.Request r)) in
-    let then : clockAfter kind (before ++ (event.Call (call.Request r) ∷ between)) ≡ after c es = clock-then kind before (event.Call (call.Request r)) between in
-    let first : updateOf c ≡ heldUpdate justTaken = simp t at (step-held b (sinceOf kind before) (interval kind before) (call.Request r)) in
+    let last : clockFrom start (before ++ (event.Call (call.Request r) ∷ [])) ≡ c = clock-last start before (event.Call (call.Request r)) in
+    let then : clockFrom start (before ++ (event.Call (call.Request r) ∷ between)) ≡ after c es = clock-then start before (event.Call (call.Request r)) between in
+    let held = run-held c justTaken es (just-taken b r (req.requestCase b r) t) in
     let since = run-since c justTaken es refl (rw last at h) in
-    let least = least-found (after c es) (sinceFrom c justTaken es) s (req.requestCase (after c es) s) (run-held c justTaken es first) (since .offset) (rw then at u) in
+    let least = least-found (after c es) (sinceFrom c justTaken es) s (req.requestCase (after c es) s) held (since .offset) (rw then at u) in
     rw last (omega (arith, least, since .rollovers))
+
+-- the rollovers that the clock does not hold are beyond the 64
+below-limit : (n : ℕ) (b : Bool) → ltb n 64 ≡ b → ltb (min n 1024) 64 ≡ b
+below-limit n true e = lt-ltb (min n 1024) 64 (omega (arith, ltb-true n 64 e))
+below-limit n false e = le-ltb (min n 1024) 64 (omega (arith, ltb-false n 64 e))
+
+soon-by : (selected : Bool) (u : Update) (offset : Bool) (k : ℕ) → u ≡ heldUpdate (record { offset = offset; rollovers = k })
+    → selected && eqb (u .updated) 1 && ltb (u .interval) 64 ≡ selected && offset && ltb k 64
+soon-by true u true k h = rw h (below-limit k (ltb k 64) refl)
+soon-by true u false k h = rw h refl
+soon-by false u offset k h = refl
+
+pub too-soon : TooSoonByTheCalls
+too-soon kind events r =
+    let n = sinceOf kind events in
+    soon-by (selectsOffset r) (updateOf (clockAfter kind events)) (n .offset) (n .rollovers) (interval kind events)

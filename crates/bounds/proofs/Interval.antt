@@ -51,7 +51,7 @@ module _ (c : Clock) (n : Since) (h : updateOf c ≡ heldUpdate n) where
   requested-held r true t (req.done a e) = simp (e, t) refl
   requested-held r false t (req.done a e) = simp (e, t) h
 
-  pub step-held : (e : Call) → updateOf (next c e) ≡ heldUpdate (callSince c e n)
+  step-held : (e : Call) → updateOf (next c e) ≡ heldUpdate (callSince c e n)
   step-held call.Tick = tick-held (tickCase c)
   step-held (call.Setting s u) = set-held s u (settingCase c s u)
   step-held (call.Request r) = requested-held r (selectsOffset r) refl (req.requestCase c r)

@@ -7,7 +7,7 @@ use Rattle.state.specs.declared.state.Clock.{Clock}
 use Rattle.event.specs.Event.{answerOf, stepOf}
 use Rattle.event.specs.declared.event.Call as call
 use Rattle.event.specs.declared.event.Event.{Event}
-use Rattle.bounds.specs.Calls.{afterBy, after, clockAfter}
+use Rattle.bounds.specs.Calls.{afterBy, after, clockAfter, clockFrom}
 use Rattle.bounds.specs.Singly.{singleCalls, singlyFrom, singly}
 use Rattle.bounds.specs.Book.{emptyBook, bookFrom}
 use Rattle.bounds.specs.Demand.{bookOf}
@@ -30,18 +30,19 @@ singly-append c (e ∷ xs) ys =
     ap (λ (ks : List call.Call). singleCalls c e ++ ks) (singly-append (stepOf c e .clock) xs ys)
     ∙ sym (append-assoc (singleCalls c e) (singlyFrom (stepOf c e .clock) xs) _)
 
-module _ (kind : ℕ) (before : List Event) (e : Event) where
-  -- the clock after an event of a list, and after those behind it
-  pub clock-last : clockAfter kind (before ++ (e ∷ [])) ≡ stepOf (clockAfter kind before) e .clock
+-- the clock after an event of a list, and after those behind it
+module _ (start : Clock) (before : List Event) (e : Event) where
+  pub clock-last : clockFrom start (before ++ (e ∷ [])) ≡ stepOf (clockFrom start before) e .clock
   unfolding afterBy
-  clock-last = after-append stepOf (freshClock kind) before (e ∷ [])
+  clock-last = after-append stepOf start before (e ∷ [])
 
   pub clock-then : (between : List Event)
-      → let c = stepOf (clockAfter kind before) e .clock in
-      clockAfter kind (before ++ (e ∷ between)) ≡ after c (singlyFrom c between)
+      → let c = stepOf (clockFrom start before) e .clock in
+      clockFrom start (before ++ (e ∷ between)) ≡ after c (singlyFrom c between)
   unfolding afterBy
-  clock-then between = after-append stepOf (freshClock kind) before (e ∷ between) ∙ after-singly (stepOf (clockAfter kind before) e .clock) between
+  clock-then between = after-append stepOf start before (e ∷ between) ∙ after-singly (stepOf (clockFrom start before) e .clock) between
 
+module _ (kind : ℕ) (before : List Event) (e : Event) where
   singly-last : singly kind (before ++ (e ∷ [])) ≡ singly kind before ++ singleCalls (clockAfter kind before) e
   unfolding singlyFrom
   singly-last =

@@ -93,8 +93,8 @@ module _ (kind : ℕ) (h : kindRange kind ≡ true) where
       let c = clockAfter kind before in
       let es = singlyFrom c between in
       -- a reading hands back the clock that it got
-      let q : clockAfter kind (before ++ (Call Reading ∷ [])) ≡ c = clock-last kind before (Call Reading) in
-      let t : clockAfter kind (before ++ (Call Reading ∷ between)) ≡ after c es = clock-then kind before (Call Reading) between in
+      let q : clockAfter kind (before ++ (Call Reading ∷ [])) ≡ c = clock-last (freshClock kind) before (Call Reading) in
+      let t : clockAfter kind (before ++ (Call Reading ∷ between)) ≡ after c es = clock-then (freshClock kind) before (Call Reading) between in
       let r = read-ok c (inv kind h before .range) in
       let s = read-ok (after c es) (rw t at (inv kind h (before ++ (Call Reading ∷ between)) .range)) in
       let f = forward c (bookOf kind before) es (inv kind h before) (rw q at u) in

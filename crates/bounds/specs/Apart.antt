@@ -1,28 +1,40 @@
--- Document 02, Req 05, over a whole list: "A request that selects an offset fewer than 64 rollovers after the last accepted one is now
--- refused". So two accepted offsets have at least 64 rollovers between them, unless there is an accepted setting as well.
+-- Document 02, Req 05, over a whole list: "A request that selects an offset fewer than 64 rollovers after the last accepted one is now refused,
+-- number 17 [..] A clock without an earlier update is exempt."
 use Prim.Native.Nat.{ℕ, _≤_}
 use mathlib.Core.Path.{_≡_}
-use mathlib.Core.Bool.{true}
+use mathlib.Core.Bool.{Bool, true, _&&_}
 use mathlib.Core.List.{List, [], _∷_, _++_}
-use Rattle.request.specs.Request.{shortestInterval}
+use lib.Dec.{ltb}
+use Rattle.state.specs.declared.state.Clock.{Clock}
+use Rattle.request.specs.Request.{selectsOffset, shortestInterval, offsetTooSoon}
 use Rattle.request.specs.declared.request.Request as asked
 use Rattle.event.specs.declared.event.Call.the-variants.{Request}
 use Rattle.event.specs.declared.event.Event.{Event}
 use Rattle.event.specs.declared.event.Event.the-variants.{Call}
-use Rattle.bounds.specs.Calls.{clockAfter, takesOffset, rolloversAmong, neverSet}
+use Rattle.bounds.specs.Calls.{clockAfter, clockFrom, takesOffset, rolloversAmong, neverSet}
 use Rattle.bounds.specs.Singly.{singlyFrom}
+use Rattle.bounds.specs.Interval.{Since, sinceOf}
 
--- Whichever two requests of a list on a fresh clock of a kind: both are accepted and select an offset. The ticks of catch-ups between them
--- are made singly.
-abbrev pub OffsetsApart : ℕ → List Event → Type 0
-OffsetsApart kind events =
+-- that a request comes too soon, by all the rollovers since the last accepted offset
+abbrev pub tooSoon : Since → asked.Request → Bool
+tooSoon n r = selectsOffset r && n .offset && ltb (n .rollovers) shortestInterval
+
+-- After any list of events on a fresh clock of a kind the clock, which holds no more than 1,024 of these rollovers, judges by them all.
+abbrev pub TooSoonByTheCalls : Type 0
+TooSoonByTheCalls = (kind : ℕ) (events : List Event) (r : asked.Request) → offsetTooSoon (clockAfter kind events) r ≡ tooSoon (sinceOf kind events) r
+
+-- So two accepted offsets have at least 64 rollovers between them, unless there is an accepted setting as well: whichever two requests of a list
+-- that are accepted and select an offset. The ticks of catch-ups between them are made singly.
+abbrev pub OffsetsApart : Clock → List Event → Type 0
+OffsetsApart start events =
     (before between later : List Event) (first second : asked.Request)
     → events ≡ before ++ (Call (Request first) ∷ (between ++ (Call (Request second) ∷ later)))
-    → takesOffset (clockAfter kind before) first ≡ true
-    → takesOffset (clockAfter kind (before ++ (Call (Request first) ∷ between))) second ≡ true
-    → let c = clockAfter kind (before ++ (Call (Request first) ∷ [])) in
+    → takesOffset (clockFrom start before) first ≡ true
+    → takesOffset (clockFrom start (before ++ (Call (Request first) ∷ between))) second ≡ true
+    → let c = clockFrom start (before ++ (Call (Request first) ∷ [])) in
     neverSet c (singlyFrom c between) ≡ true
     → shortestInterval ≤ rolloversAmong c (singlyFrom c between)
 
+-- On any clock: a fresh one of a kind, or one that was read from a record.
 abbrev pub OffsetsApartInEveryList : Type 0
-OffsetsApartInEveryList = (kind : ℕ) (events : List Event) → OffsetsApart kind events
+OffsetsApartInEveryList = (start : Clock) (events : List Event) → OffsetsApart start events

@@ -32,6 +32,10 @@ clockBy answers kind events = afterBy answers (freshClock kind) events
 abbrev pub clockAfter : ℕ → List Event → Clock
 clockAfter kind events = clockBy stepOf kind events
 
+-- by the rules, on any clock
+abbrev pub clockFrom : Clock → List Event → Clock
+clockFrom start events = afterBy stepOf start events
+
 -- Single calls, by the rules.
 abbrev pub next : Clock → Call → Clock
 next c e = answerOf c e .clock

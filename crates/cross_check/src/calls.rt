@@ -87,7 +87,7 @@ pub(crate) fn start(case: u64) -> Verdict {
 }
 
 // The ticks after which 62 to 66 rollovers lie behind the clock's last offset, or about as many: the next one is accepted from 64 on. Of kind 1
-// one call makes no more than 64 of them.
+// one call makes about 64 of them at most.
 fn about_64(s: State, v: u64) -> [u64; ROW] {
     let wanted = minus(62 + v % 5, s.since);
     catch_up_row(least(times(wanted, rate(s.kind)), 65536), 0)

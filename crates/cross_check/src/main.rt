@@ -118,7 +118,7 @@ fn tell(text: [u8; 10], n: u64) {
 
 fn tell_name(group: u64) {
     let names = NAMES;
-    let at = (group % 21 * 16) as usize;
+    let at = (group % GROUPS as u64 * 16) as usize;
     io::write_all(STDOUT_FILENO, &names[at..at + 16]);
 }
 
@@ -175,7 +175,7 @@ struct Tally {
 
 // The counts after one more case.
 fn noted(group: u64, case: u64, v: Verdict, met: &mut [u64; ANSWERS], t: Tally) -> Tally {
-    let k = (v.refusal % 18) as usize;
+    let k = (v.refusal % ANSWERS as u64) as usize;
     met[k] = plus(met[k], 1);
     match pick(v.same | (TOLD <= t.differ), 0, 1) {
         0 => (),

@@ -92,7 +92,7 @@ fn damage_and_restore(bytes: &mut [u8]) {
 }
 
 // A record of version 1, which has the second of the last offset where later ones have the rollovers since it, and no kind. It is read; the
-// clock that it gives is of kind 0 and has no earlier offset, so that the next one pulls no frequency.
+// clock that it gives is of kind 0 and has no earlier offset, so that the next one pulls no frequency, and is not too soon.
 fn restore_an_old_record() {
     let bytes =
         b"\x01\x82\x98\xec\xc5\x03\x32\x00\x00\x00\x80\x80\x80\x40\x00\x01\x80\x98\xec\xc5\x03\x80\xc8\xd0\x07\x80\xc8\xd0\x07\x00";
