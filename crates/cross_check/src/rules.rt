@@ -231,7 +231,7 @@ fn chosen(row: &[u64; ROW], k: usize, bit: u64, old: u64) -> u64 {
     pick((row[1] & bit) == 0, old, row[k % ROW])
 }
 
-// The rollovers that a request has to wait for after the last offset: none that selects no offset, or where there was none before.
+// The rollovers that must have come since the last offset: none for a request that selects no offset, or where there was none before.
 fn wait(s: State, row: &[u64; ROW]) -> u64 {
     pick(row[1] % 2 == 0, 0, s.flag % 2 * 64)
 }
