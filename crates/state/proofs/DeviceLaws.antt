@@ -10,7 +10,6 @@ use mir.Syntax.{w32}
 use mir.Val.{SFits}
 use Rattle.integers.proofs.Parts.{posPart, negPart, sfits-parts}
 use Rattle.state.specs.Device.{recorder256, recorder1024, deviceOf}
-use Rattle.state.specs.Inner.{mostCarried}
 use Rattle.state.specs.declared.device.Device.{Device}
 
 -- the most that share and frequency can move the adjustment from its base, each way (phase units)
@@ -31,10 +30,8 @@ pub record Laws (d : Device) : Type 0 where
   pub least : posPart (d .least .0) + reach d ≡ posPart (d .base .0) + negPart (d .least .0)
   pub signs : (negPart (d .base .0) ≡ 0) × (negPart (d .most .0) ≡ 0)
   -- bounds that hold on every device
-  pub sizes : (posPart (d .most .0) ≤ 303037440) × (negPart (d .least .0) ≤ 168819712) × (d .scale ≤ 64) × (1 ≤ d .divisor) × (d .divisor ≤ 64)
+  pub sizes : (posPart (d .most .0) ≤ 303037440) × (negPart (d .least .0) ≤ 168819712) × (d .scale ≤ 64) × (16 ≤ d .divisor) × (d .divisor ≤ 64)
   pub tick : (976 ≤ d .tick .0) × (d .tick .0 ≤ 3906)
-  -- what a tick carries at most
-  pub carried : (posPart (d .most .0) < 268435456 * mostCarried d) × (mostCarried d ≤ 2)
 
 by-test : (b : Bool) → Laws (cond b recorder1024 recorder256)
 by-test true = omega arith

@@ -9,10 +9,10 @@ use borrow.Author.Tests.{leb-true, le-leb}
 use Rattle.integers.proofs.Parts.{posPart, negPart, one-part}
 use Rattle.integers.proofs.Ranges.{and-true, true-and, within-parts, parts-within, between-parts, parts-between, bounds-parts, parts-bounds}
 use Rattle.state.specs.Device.{deviceOf}
-use Rattle.state.specs.State.{inRange}
+use Rattle.state.specs.State.{partsRange, inRange}
 use Rattle.state.specs.declared.device.Device.{Device}
 use Rattle.state.specs.declared.state.Clock.{Clock}
-use Rattle.state.proofs.DeviceLaws.{Laws, laws}
+use Rattle.state.proofs.DeviceLaws.{Laws, laws, divisor-pos}
 
 -- an adjustment of a device
 pub record Adjusted (d : Device) (a : ℤ) : Type 0 where
@@ -24,6 +24,16 @@ pub record Adjusted (d : Device) (a : ℤ) : Type 0 where
 pub adjusted : (kind : ℕ) (a : ℤ) → (posPart (deviceOf kind .least .0) + negPart a ≤ posPart a + negPart (deviceOf kind .least .0)) × (posPart a + negPart (deviceOf kind .most .0) ≤ posPart (deviceOf kind .most .0) + negPart a)
     → Adjusted (deviceOf kind) a
 adjusted kind a h = omega (arith, laws kind, one-part a)
+
+-- parts of a phase unit, fewer than make one
+pub record Parts (d : Device) (z : ℤ) : Type 0 where
+  pub up : posPart z < d .divisor
+  pub down : negPart z < d .divisor
+
+parts-of : (kind : ℕ) (z : ℤ) → partsRange (deviceOf kind) z ≡ true → Parts (deviceOf kind) z
+parts-of kind z e =
+    let p = between-parts (deviceOf kind .divisor) (deviceOf kind .divisor) z (divisor-pos kind) (divisor-pos kind) e in
+    record { up = p .0; down = p .1 }
 
 pub record Ok (c : Clock) : Type 0 where
   pub kind : c .kind ≤ 1
@@ -40,12 +50,16 @@ pub record Ok (c : Clock) : Type 0 where
   pub maxerror : c .maxerror .0 ≤ 16000000
   pub esterror : c .esterror .0 ≤ 16000000
   pub status : c .status ≤ 4
+  pub remainder : Parts (deviceOf (c .kind)) (c .remainder .0)
+  pub leftover : Parts (deviceOf (c .kind)) (c .leftover .0)
   pub device : Laws (deviceOf (c .kind))
 
 pub ok : (c : Clock) → inRange c ≡ true → Ok c
 unfolding inRange
 ok c e =
-    let a10 = and-true _ _ e in
+    let a12 = and-true _ _ e in
+    let a11 = and-true _ _ (a12 .0) in
+    let a10 = and-true _ _ (a11 .0) in
     let a9 = and-true _ _ (a10 .0) in
     let a8 = and-true _ _ (a9 .0) in
     let a7 = and-true _ _ (a8 .0) in
@@ -73,6 +87,8 @@ ok c e =
       maxerror = leb-true _ _ (a8 .1);
       esterror = leb-true _ _ (a9 .1);
       status = leb-true _ _ (a10 .1);
+      remainder = parts-of (c .kind) (c .remainder .0) (a11 .1);
+      leftover = parts-of (c .kind) (c .leftover .0) (a12 .1);
       device = laws (c .kind);
     }
 

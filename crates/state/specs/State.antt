@@ -4,11 +4,12 @@ use mathlib.Core.Bool.{Bool, _&&_, _||_}
 use lib.Dec.{leb, eqb}
 use lib.IntN.{ℤ, pos, negℤ}
 use lib.Signed.{leZ, ltZ}
-use Rattle.state.specs.Units.{micros, offsetUnits, phaseUnits, frequencyUnits, offsetUnitsPerMicro, phaseUnitsPerMicro, frequencyUnitsPerPpm, microsPerSecond}
+use Rattle.state.specs.Units.{micros, offsetUnits, phaseUnits, phaseParts, frequencyUnits, offsetUnitsPerMicro, phaseUnitsPerMicro, frequencyUnitsPerPpm, microsPerSecond}
 use Rattle.state.specs.Device.{kindRange, deviceOf}
 use Rattle.state.specs.declared.units.Micros.{Micros}
 use Rattle.state.specs.declared.units.OffsetUnits.{OffsetUnits}
 use Rattle.state.specs.declared.units.PhaseUnits.{PhaseUnits}
+use Rattle.state.specs.declared.units.PhaseParts.{PhaseParts}
 use Rattle.state.specs.declared.units.Frequency.{Frequency}
 use Rattle.state.specs.declared.device.Device.{Device}
 use Rattle.state.specs.declared.state.Clock.{Clock}
@@ -106,7 +107,12 @@ errorRange n = leb n greatestError
 abbrev pub statusRange : ℕ → Bool
 statusRange n = leb n statusBad
 
--- a line for each row; the kind stands before the range that depends on it
+-- document 02: "A unit is 16 parts (64 for kind 1); remainder and leftover lie strictly within plus or minus a unit", on a device; a part is the
+-- divisor's share of a phase unit
+abbrev pub partsRange : Device → ℤ → Bool
+partsRange d z = strictlyWithin (d .divisor) z
+
+-- a line for each row; the kind stands before the ranges that depend on it
 unfoldable pub inRange : Clock → Bool
 inRange c =
     kindRange (c .kind)
@@ -121,6 +127,8 @@ inRange c =
     && errorRange (c .maxerror .0)
     && errorRange (c .esterror .0)
     && statusRange (c .status)
+    && partsRange (deviceOf (c .kind)) (c .remainder .0)
+    && partsRange (deviceOf (c .kind)) (c .leftover .0)
 
 -- The fields in groups, by what moves them, so that a rule names the groups that it moves and hands on the others whole.
 
@@ -129,11 +137,13 @@ pub record Time : Type 0 where
   pub seconds : ℕ
   pub micros : Micros
   pub phase : PhaseUnits
+  pub leftover : PhaseParts
 
 -- moved by rollovers and settings, and the offset by requests
 pub record Correction : Type 0 where
   pub offset : OffsetUnits
   pub adjustment : PhaseUnits
+  pub remainder : PhaseParts
 
 -- moved by requests alone
 pub record Tuning : Type 0 where
@@ -160,10 +170,10 @@ pub record Groups : Type 0 where
   pub status : ℕ
 
 abbrev pub timeOf : Clock → Time
-timeOf c = record { seconds = c .seconds; micros = c .micros; phase = c .phase }
+timeOf c = record { seconds = c .seconds; micros = c .micros; phase = c .phase; leftover = c .leftover }
 
 abbrev pub correctionOf : Clock → Correction
-correctionOf c = record { offset = c .offset; adjustment = c .adjustment }
+correctionOf c = record { offset = c .offset; adjustment = c .adjustment; remainder = c .remainder }
 
 abbrev pub tuningOf : Clock → Tuning
 tuningOf c = record { frequency = c .frequency; constant = c .constant }
@@ -191,6 +201,8 @@ whole g =
       maxerror = g .errors .maxerror;
       esterror = g .errors .esterror;
       status = g .status;
+      remainder = g .correction .remainder;
+      leftover = g .time .leftover;
     }
 
 -- no earlier update
@@ -207,8 +219,9 @@ freshClock kind =
     whole
     (record {
       kind = kind;
-      time = record { seconds = 0; micros = micros 0; phase = phaseUnits (pos 0) };
-      correction = record { offset = offsetUnits (pos 0); adjustment = deviceOf kind .base };
+      time = record { seconds = 0; micros = micros 0; phase = phaseUnits (pos 0); leftover = phaseParts (pos 0) };
+      correction =
+          record { offset = offsetUnits (pos 0); adjustment = deviceOf kind .base; remainder = phaseParts (pos 0) };
       tuning = record { frequency = frequencyUnits (pos 0); constant = 0 };
       update = noUpdate;
       errors = greatestErrors;

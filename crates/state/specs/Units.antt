@@ -1,10 +1,12 @@
--- The kinds of number, and what they are worth. "An offset unit is 2^-14 us, a phase unit 2^-28 us, a frequency unit 2^-24 ppm."
+-- The kinds of number, and what they are worth. "An offset unit is 2^-14 us, a phase unit 2^-28 us, a frequency unit 2^-24 ppm." Document 02 has
+-- parts of a phase unit besides: "A unit is 16 parts (64 for kind 1)".
 -- "Every quotient below drops the fraction towards zero, for negative numbers too": `quotZ` is that quotient, in all of these files.
 use Prim.Native.Nat.{ℕ, _-_, _^_}
 use lib.IntN.{ℤ}
 use Rattle.state.specs.declared.units.Micros.{Micros}
 use Rattle.state.specs.declared.units.OffsetUnits.{OffsetUnits}
 use Rattle.state.specs.declared.units.PhaseUnits.{PhaseUnits}
+use Rattle.state.specs.declared.units.PhaseParts.{PhaseParts}
 use Rattle.state.specs.declared.units.Frequency.{Frequency}
 use Rattle.state.specs.declared.units.AskedMicros.{AskedMicros}
 
@@ -16,6 +18,9 @@ offsetUnits z = record { 0 = z }
 
 abbrev pub phaseUnits : ℤ → PhaseUnits
 phaseUnits z = record { 0 = z }
+
+abbrev pub phaseParts : ℤ → PhaseParts
+phaseParts z = record { 0 = z }
 
 abbrev pub frequencyUnits : ℤ → Frequency
 frequencyUnits z = record { 0 = z }

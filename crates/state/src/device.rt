@@ -11,7 +11,7 @@ pub struct Device {
     pub tick: Micros,
     // phase units a tick for each offset unit of the share: 2^14 / rate
     pub scale: u32,
-    // frequency units that make one phase unit a tick: rate / 2^4
+    // frequency units that make one phase unit a tick, and so the parts of a phase unit: rate / 2^4
     pub divisor: u32,
     // phase units a tick that make up for the microseconds that `rate` ticks lack of a second
     pub base: PhaseUnits,

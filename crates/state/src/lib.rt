@@ -48,4 +48,5 @@ pub use units::AskedMicros;
 pub use units::Frequency;
 pub use units::Micros;
 pub use units::OffsetUnits;
+pub use units::PhaseParts;
 pub use units::PhaseUnits;

@@ -1,7 +1,7 @@
 ghost use mathlib.Core.Path.{_≡_};
 ghost use Rattle.state.specs.Fresh.{freshOf};
 ghost use Rattle.state.specs.State.{inRange, freshClock};
-ghost use Rattle.state.specs.Inner.{firstFieldsRange, lastFieldsRange, adjustmentOfKind};
+ghost use Rattle.state.specs.Inner.{firstFieldsRange, lastFieldsRange, fieldsOfKind};
 use crate::device::KIND_256;
 use crate::device::KIND_1024;
 use crate::device::RECORDER_256;
@@ -23,9 +23,10 @@ use crate::outcome::Outcome;
 use crate::units::Frequency;
 use crate::units::Micros;
 use crate::units::OffsetUnits;
+use crate::units::PhaseParts;
 use crate::units::PhaseUnits;
 
-// A clock's state, in the order of document 01's table; document 02's kind is last, where it costs a tick least. Any value of the type may be
+// A clock's state, in the order of document 01's table; document 02's fields follow it in the order of its requests. Any value of the type may be
 // handed in, sound or not.
 #[repr(C)]
 pub struct Clock {
@@ -52,6 +53,10 @@ pub struct Clock {
     pub status: u8,
     // kind of the device: KIND_256 0, KIND_1024 1
     pub kind: u8,
+    // what the frequency in force leaves of a phase unit each tick: the remainder of the division that the adjustment has the quotient of
+    pub remainder: PhaseParts,
+    // what has come together of it, and is not a whole phase unit yet
+    pub leftover: PhaseParts,
 }
 
 // The fields up to the frequency. Every u32 is a second that can be told: the test of `seconds` always holds, and costs nothing.
@@ -65,7 +70,7 @@ fn first_fields_in_range(c: Clock) -> bool
         & ((MIN_FREQUENCY <= c.frequency.0) & (c.frequency.0 <= MAX_FREQUENCY))
 }
 
-// The others, but for the adjustment. How far the interval may go follows from the flag, 0 or MAX_INTERVAL: one test in place of two, which
+// The others, but for those whose range depends on the kind. How far the interval may go follows from the flag, 0 or MAX_INTERVAL: one test in place of two, which
 // every call makes.
 fn last_fields_in_range(c: Clock) -> bool
     ensures { λ r. ⌜ r ≡ lastFieldsRange c ⌝ }
@@ -77,13 +82,36 @@ fn last_fields_in_range(c: Clock) -> bool
         & (c.status <= TIME_BAD)
 }
 
-// The kind, and the adjustment by it. A branch on the kind, and its own ends as constants, take fewer instructions than ends that are chosen.
-fn adjustment_in_range(kind: u8, a: PhaseUnits) -> bool
-    ensures { λ r. ⌜ r ≡ adjustmentOfKind kind (a .0) ⌝ }
+// The parts of a phase unit that remainder and leftover lie strictly within, either way.
+const PARTS_256: i32 = RECORDER_256.divisor as i32;
+
+const MINUS_PARTS_256: i32 = -PARTS_256;
+
+const PARTS_1024: i32 = RECORDER_1024.divisor as i32;
+
+const MINUS_PARTS_1024: i32 = -PARTS_1024;
+
+// The kind, and by it the adjustment, the remainder and the leftover. A branch on the kind, and its own ends as constants, take fewer instructions
+// than ends that are chosen; and one branch for the three fewer than one for each.
+fn fields_of_kind_in_range(
+    kind: u8,
+    a: PhaseUnits,
+    remainder: PhaseParts,
+    leftover: PhaseParts,
+) -> bool
+    ensures { λ r. ⌜ r ≡ fieldsOfKind kind (a .0) (remainder .0) (leftover .0) ⌝ }
 {
     match kind {
-        KIND_256 => (RECORDER_256.least.0 <= a.0) & (a.0 <= RECORDER_256.most.0),
-        KIND_1024 => (RECORDER_1024.least.0 <= a.0) & (a.0 <= RECORDER_1024.most.0),
+        KIND_256 => {
+            ((RECORDER_256.least.0 <= a.0) & (a.0 <= RECORDER_256.most.0))
+                & ((MINUS_PARTS_256 < remainder.0) & (remainder.0 < PARTS_256))
+                & ((MINUS_PARTS_256 < leftover.0) & (leftover.0 < PARTS_256))
+        }
+        KIND_1024 => {
+            ((RECORDER_1024.least.0 <= a.0) & (a.0 <= RECORDER_1024.most.0))
+                & ((MINUS_PARTS_1024 < remainder.0) & (remainder.0 < PARTS_1024))
+                & ((MINUS_PARTS_1024 < leftover.0) & (leftover.0 < PARTS_1024))
+        }
         _ => false,
     }
 }
@@ -99,7 +127,7 @@ pub fn in_range(c: Clock) -> bool
     if !last_fields_in_range(c) {
         return false;
     }
-    adjustment_in_range(c.kind, c.adjustment)
+    fields_of_kind_in_range(c.kind, c.adjustment, c.remainder, c.leftover)
 }
 
 // The clock of a kind before anything has happened to it, which counts as set to 0 s. Of a number that is no kind: refusal 1, and the
@@ -137,5 +165,7 @@ fn fresh_of(kind: u8) -> Clock
         esterror: Micros(MAX_ERROR),
         status: TIME_BAD,
         kind: kind,
+        remainder: PhaseParts(0),
+        leftover: PhaseParts(0),
     }
 }

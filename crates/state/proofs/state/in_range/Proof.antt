@@ -1,29 +1,28 @@
--- `state::in_range`: the parts of the table, the kind and the adjustment behind the others.
+-- `state::in_range`: the parts of the table, the kind and what depends on it behind the others.
 use mathlib.Core.Path.{_≡_, refl, sym, _∙_}
-use mathlib.Core.Bool.{Bool, true, false, _&&_, and-false}
-use mathlib.Core.Bool.{and-true as and-one}
+use mathlib.Core.Bool.{Bool, true, false, _&&_, and-false, and-assoc}
 use borrow.Author.Needs.{needs}
 use borrow.Author.Tests.{not-true, not-false}
 use Rattle.state.specs.Device.{kindRange, deviceOf}
-use Rattle.state.specs.State.{secondRange, microsRange, phaseRange, offsetRange, frequencyRange, adjustmentRange, constantRange, flagRange, intervalRange, zeroUnlessFlag, errorRange, statusRange, inRange}
-use Rattle.state.specs.Inner.{firstFieldsRange, lastFieldsRange, adjustmentOfKind}
+use Rattle.state.specs.State.{secondRange, microsRange, phaseRange, offsetRange, frequencyRange, adjustmentRange, constantRange, flagRange, intervalRange, zeroUnlessFlag, errorRange, statusRange, partsRange, inRange}
+use Rattle.state.specs.Inner.{firstFieldsRange, lastFieldsRange, fieldsOfKind}
 use Rattle.state.specs.declared.state.Clock.{Clock}
 use Rattle.state.proofs.state.in_range.Statement.{statement}
 use Rattle.state.proofs.state.in_range.Tie as tie
 
--- five tests behind two others, or before the second
-behind : (first j a b c d e : Bool) → first && j && a && b && c && d && e ≡ first && (a && b && c && d && e) && j
-behind true true a b c d e = sym (and-one (a && b && c && d && e))
-behind true false a b c d e = sym (and-false (a && b && c && d && e))
-behind false j a b c d e = refl
+-- five tests between one test and two others, or before all three
+behind : (first j a b c d e r l : Bool) → first && j && a && b && c && d && e && r && l ≡ first && (a && b && c && d && e) && (j && r && l)
+behind true true a b c d e r l = and-assoc (a && b && c && d && e) r l
+behind true false a b c d e r l = sym (and-false (a && b && c && d && e))
+behind false j a b c d e r l = refl
 
 -- and a test before five others, or behind all
-moved : (k s m p o f j a b c d e : Bool)
-    → k && s && m && p && o && f && j && a && b && c && d && e ≡ s && m && p && o && f && (a && b && c && d && e) && (k && j)
-moved true s m p o f j a b c d e = behind (s && m && p && o && f) j a b c d e
-moved false s m p o f j a b c d e = sym (and-false (s && m && p && o && f && (a && b && c && d && e)))
+moved : (k s m p o f j a b c d e r l : Bool)
+    → k && s && m && p && o && f && j && a && b && c && d && e && r && l ≡ s && m && p && o && f && (a && b && c && d && e) && (k && j && r && l)
+moved true s m p o f j a b c d e r l = behind (s && m && p && o && f) j a b c d e r l
+moved false s m p o f j a b c d e r l = sym (and-false (s && m && p && o && f && (a && b && c && d && e)))
 
-parts : (c : Clock) → inRange c ≡ firstFieldsRange c && lastFieldsRange c && adjustmentOfKind (c .kind) (c .adjustment .0)
+parts : (c : Clock) → inRange c ≡ firstFieldsRange c && lastFieldsRange c && fieldsOfKind (c .kind) (c .adjustment .0) (c .remainder .0) (c .leftover .0)
 unfolding inRange
 parts c =
     moved
@@ -39,6 +38,8 @@ parts c =
     (errorRange (c .maxerror .0))
     (errorRange (c .esterror .0))
     (statusRange (c .status))
+    (partsRange (deviceOf (c .kind)) (c .remainder .0))
+    (partsRange (deviceOf (c .kind)) (c .leftover .0))
 
 first-fields-in-range-requires : tie.Need-first-fields-in-range-requires
 first-fields-in-range-requires c κs = search needs
@@ -56,8 +57,8 @@ returns-2 c =
     let one = sym (f .before .first-fields-in-range .ensures) ∙ not-false _ (f .if1 .left) in
     rw (parts (f .before .before .args .c), one, sym (l .last-fields-in-range .ensures) ∙ not-true _ (c .if2 .taken))
 
-adjustment-in-range-requires : tie.Need-adjustment-in-range-requires
-adjustment-in-range-requires c κs = search needs
+fields-of-kind-in-range-requires : tie.Need-fields-of-kind-in-range-requires
+fields-of-kind-in-range-requires c κs = search needs
 
 returns-3 : tie.Need-returns-3
 returns-3 c =
@@ -66,7 +67,7 @@ returns-3 c =
     let f = l .before in
     let one = sym (f .before .first-fields-in-range .ensures) ∙ not-false _ (f .if1 .left) in
     let two = sym (l .last-fields-in-range .ensures) ∙ not-false _ (e .if2 .left) in
-    rw (parts (f .before .before .args .c), one, two) (c .adjustment-in-range .ensures)
+    rw (parts (f .before .before .args .c), one, two) (c .fields-of-kind-in-range .ensures)
 
 pub in-range-spec : {M : Type 1} → statement M
 in-range-spec =
@@ -76,5 +77,5 @@ in-range-spec =
     returns
     last-fields-in-range-requires
     returns-2
-    adjustment-in-range-requires
+    fields-of-kind-in-range-requires
     returns-3)
