@@ -3,7 +3,7 @@ use Prim.Native.Nat.{ℕ}
 use mathlib.Core.Bool.{Bool, _&&_, not}
 use lib.Dec.{leb}
 use lib.IntN.{pos}
-use Rattle.state.specs.Units.{micros, offsetUnits, phaseUnits}
+use Rattle.state.specs.Units.{micros, offsetUnits, phaseUnits, phaseParts}
 use Rattle.state.specs.Device.{deviceOf}
 use Rattle.state.specs.State.{inRange, lastSecond, lastMicro, statusBad, tuningOf, whole, noUpdate, greatestErrors}
 use Rattle.state.specs.Refusal.{refuse}
@@ -11,20 +11,22 @@ use Rattle.state.specs.declared.state.Clock.{Clock}
 use Rattle.state.specs.declared.units.AskedMicros.{AskedMicros}
 use Rattle.state.specs.declared.outcome.Outcome.{Outcome}
 use Rattle.clock.specs.Refusal.{answer}
-use Rattle.clock.specs.Rollover.{adjustmentFor}
+use Rattle.clock.specs.Rollover.{division, adjustmentFor}
 
 -- "Both replaced; phase and offset left 0; no earlier update; adjustment as at a rollover with share 0; both errors 16,000,000;
--- status BAD. Frequency and time constant stay." Document 02: the "device kind, 0 or 1, which a setting keeps".
+-- status BAD. Frequency and time constant stay." Document 02: the "device kind, 0 or 1, which a setting keeps"; "A setting clears the leftover and
+-- works the remainder out from the frequency kept."
 abbrev pub setTo : Clock → ℕ → AskedMicros → Clock
 setTo c s u =
     whole
     (record {
       kind = c .kind;
-      time = record { seconds = s; micros = micros (u .0); phase = phaseUnits (pos 0) };
+      time = record { seconds = s; micros = micros (u .0); phase = phaseUnits (pos 0); leftover = phaseParts (pos 0) };
       correction =
           record {
             offset = offsetUnits (pos 0);
             adjustment = phaseUnits (adjustmentFor (deviceOf (c .kind)) (pos 0) (c .frequency .0));
+            remainder = division (deviceOf (c .kind)) (c .frequency .0) .remainder;
           };
       tuning = tuningOf c;
       update = noUpdate;

@@ -1,28 +1,32 @@
-// Ticks of one second in one step, by a product and a division: specs/Inner.antt.
+// Ticks of one second in one step, by products and divisions: specs/Inner.antt.
 ghost use mathlib.Core.Path.{_≡_};
 ghost use mathlib.Core.Bool.{true};
-ghost use Prim.Native.Nat.{_+_, _-_, _*_, _≤_, _<_};
+ghost use Prim.Native.Nat.{_-_, _*_, _≤_, _<_};
 ghost use Rattle.state.specs.Device.{deviceOf};
-ghost use Rattle.state.specs.State.{inRange, lastMicro};
-ghost use Rattle.clock.specs.Inner.{Within, jumpOf, mostOfATick};
+ghost use Rattle.state.specs.State.{inRange};
+ghost use Rattle.state.specs.Inner.{longestTick};
+ghost use Rattle.state.specs.Units.{phaseUnitsPerMicro};
+ghost use Rattle.clock.specs.Inner.{Within, reachedAfter, jumpOf};
 use crate::timer::Advance;
+use crate::timer::Reached;
 use state::Clock;
 use state::KIND_1024;
 use state::LAST_MICRO;
 use state::Micros;
 use state::PHASE_PER_MICRO;
+use state::PhaseParts;
 use state::PhaseUnits;
 use state::device_constants;
 
-// One over the most microseconds that a tick adds, 3,908 and 977 (2^-32, rounded down): to divide by a product.
-const PER_MICRO_256: u64 = 1099019;
+// The longest ticks that go into a microsecond, of some 3,907.13 and 976.78 us (2^-32 ticks, rounded down): to divide by a product.
+const PER_MICRO_256: u64 = 1099264;
 
-const PER_MICRO_1024: u64 = 4396077;
+const PER_MICRO_1024: u64 = 4397057;
 
 const PER_MICRO_UNIT: u64 = 4294967296;
 
 fn per_micro(kind: u8) -> u64
-    ensures { λ r. ⌜ (r ≤ 4294967296) × (r * mostOfATick (deviceOf kind) ≤ 4294967296) ⌝ }
+    ensures { λ r. ⌜ (r ≤ 4294967296) × (r * longestTick (deviceOf kind) ≤ 4294967296 * phaseUnitsPerMicro) ⌝ }
 {
     match kind {
         KIND_1024 => PER_MICRO_1024,
@@ -34,19 +38,35 @@ fn per_micro(kind: u8) -> u64
 pub(crate) fn jump_length(c: Clock, most: u64) -> u64
     requires { ⌜ inRange c ≡ true ⌝ }
     requires { ⌜ 0 < most ⌝ }
-    ensures { λ r. ⌜ (0 < r) × (r ≤ most) × (c .micros .0 + mostOfATick (deviceOf (c .kind)) * (r - 1) ≤ lastMicro) ⌝ }
+    ensures { λ r. ⌜ (0 < r) × (r ≤ most) × Within (r - 1) c ⌝ }
 {
     let j = (LAST_MICRO - c.micros.0) as u64 * per_micro(c.kind) / PER_MICRO_UNIT + 1;
     if j < most { j } else { most }
 }
 
-// The microseconds and the phase j ticks later, where none but the last can reach the end of the second.
+// What the leftover has reached j ticks later: the remainder is the same at each.
+fn reached_after(c: Clock, j: u64) -> Reached
+    requires { ⌜ inRange c ≡ true ⌝ }
+    requires { ⌜ Within (j - 1) c ⌝ }
+    ensures { λ r. ⌜ r ≡ reachedAfter j c ⌝ }
+{
+    let divisor = device_constants(c.kind).device.divisor as i32;
+    let parts = c.leftover.0 + j as i32 * c.remainder.0;
+    Reached {
+        units: PhaseUnits(parts / divisor),
+        leftover: PhaseParts(parts % divisor),
+    }
+}
+
+// The microseconds, the phase and the leftover j ticks later, where none but the last can reach the end of the second.
 pub(crate) fn jump(c: Clock, j: u64) -> Advance
     requires { ⌜ inRange c ≡ true ⌝ }
     requires { ⌜ Within (j - 1) c ⌝ }
     ensures { λ r. ⌜ r ≡ jumpOf j c ⌝ }
 {
-    let sum = c.phase.0 as i64 + j as i64 * c.adjustment.0 as i64;
+    let reached = reached_after(c, j);
+    let leftover = reached.leftover;
+    let sum = (c.phase.0 + reached.units.0) as i64 + j as i64 * c.adjustment.0 as i64;
     let carry = sum / PHASE_PER_MICRO as i64;
     Advance {
         micros: Micros(
@@ -54,5 +74,6 @@ pub(crate) fn jump(c: Clock, j: u64) -> Advance
                 + carry) as u32,
         ),
         phase: PhaseUnits((sum - carry * PHASE_PER_MICRO as i64) as i32),
+        leftover: leftover,
     }
 }

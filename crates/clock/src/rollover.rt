@@ -2,17 +2,18 @@ ghost use mathlib.Core.Path.{_≡_};
 ghost use mathlib.Core.Bool.{true};
 ghost use Prim.Native.Nat.{_≤_, _<_};
 ghost use lib.IntN.{pos};
-ghost use Rattle.state.specs.Units.{micros, offsetUnits, phaseUnits};
+ghost use Rattle.state.specs.Units.{micros, offsetUnits};
 ghost use Rattle.state.specs.Device.{deviceOf};
 ghost use Rattle.state.specs.State.{within, greatestConstant, longestInterval, greatestError, greatestFrequency, inRange, lastSecond};
-ghost use Rattle.clock.specs.Rollover.{maxerrorGrown, intervalGrown, shareDivisor, share, adjustmentFor, rolledOver};
-ghost use Rattle.clock.specs.Inner.{greatestShare, leapOf};
+ghost use Rattle.clock.specs.Rollover.{maxerrorGrown, intervalGrown, shareDivisor, share, division, rolledOver};
+ghost use Rattle.clock.specs.Inner.{greatestShare, rateFor, leapOf};
 use state::Clock;
 use state::Frequency;
 use state::MAX_ERROR;
 use state::MAX_INTERVAL;
 use state::Micros;
 use state::OffsetUnits;
+use state::PhaseParts;
 use state::PhaseUnits;
 use state::SECONDS_PER_DAY;
 use state::TIME_BAD;
@@ -65,14 +66,42 @@ fn share_of(c: Clock) -> OffsetUnits
     OffsetUnits(c.offset.0 / share_divisor(c.constant))
 }
 
-// The adjustment of a kind for a share and a frequency in force.
-pub(crate) fn adjustment_for(kind: u8, s: OffsetUnits, f: Frequency) -> PhaseUnits
+// A frequency in phase units a tick: the whole ones, and the parts of one that it leaves, with its sign.
+struct Divided {
+    quotient: PhaseUnits,
+    remainder: PhaseParts,
+}
+
+fn divide(kind: u8, f: Frequency) -> Divided
+    requires { ⌜ within greatestFrequency (f .0) ≡ true ⌝ }
+    ensures { λ r. ⌜ r ≡ division (deviceOf kind) (f .0) ⌝ }
+{
+    let divisor = device_constants(kind).device.divisor as i32;
+    Divided {
+        quotient: PhaseUnits(f.0 / divisor),
+        remainder: PhaseParts(f.0 % divisor),
+    }
+}
+
+// What each tick adds: the adjustment to the phase, the remainder to the leftover.
+pub(crate) struct Rate {
+    pub(crate) adjustment: PhaseUnits,
+    pub(crate) remainder: PhaseParts,
+}
+
+// The rate of a kind for a share and a frequency in force.
+pub(crate) fn rate_for(kind: u8, s: OffsetUnits, f: Frequency) -> Rate
     requires { ⌜ within greatestShare (s .0) ≡ true ⌝ }
     requires { ⌜ within greatestFrequency (f .0) ≡ true ⌝ }
-    ensures { λ r. ⌜ r ≡ phaseUnits (adjustmentFor (deviceOf kind) (s .0) (f .0)) ⌝ }
+    ensures { λ r. ⌜ r ≡ rateFor (deviceOf kind) (s .0) (f .0) ⌝ }
 {
+    let d = divide(kind, f);
+    let remainder = d.remainder;
     let k = device_constants(kind);
-    PhaseUnits(k.device.scale as i32 * s.0 + f.0 / (k.device.divisor as i32) + k.device.base.0)
+    Rate {
+        adjustment: PhaseUnits(k.device.scale as i32 * s.0 + d.quotient.0 + k.device.base.0),
+        remainder: remainder,
+    }
 }
 
 const LAST_SECOND_OF_DAY: u32 = SECONDS_PER_DAY - 1;
@@ -141,7 +170,9 @@ pub(crate) fn rollover(c: Clock) -> Clock
     let maxerror = maxerror_grown(c.maxerror);
     let share = share_of(c);
     let left = OffsetUnits(c.offset.0 - share.0);
-    let adjustment = adjustment_for(c.kind, share, c.frequency);
+    let rate = rate_for(c.kind, share, c.frequency);
+    let adjustment = rate.adjustment;
+    let remainder = rate.remainder;
     let interval = interval_grown(c.updated, c.interval);
     let leap = leap_step(c.status, c.seconds + 1);
     Clock {
@@ -151,6 +182,7 @@ pub(crate) fn rollover(c: Clock) -> Clock
         interval: interval,
         maxerror: maxerror,
         status: leap.status,
+        remainder: remainder,
         ..c
     }
 }

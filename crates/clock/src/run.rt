@@ -1,15 +1,18 @@
 // A run of ticks, by turns: each goes in one step as far as the second is sure to last, and by the tick after it.
 ghost use mathlib.Core.Path.{_≡_};
 ghost use mathlib.Core.Bool.{true};
-ghost use Prim.Native.Nat.{_<_};
-ghost use Rattle.state.specs.State.{inRange};
+ghost use Prim.Native.Nat.{ℕ, _-_, _≤_, _<_};
+ghost use Rattle.state.specs.State.{inRange, lastSecond};
 ghost use Rattle.clock.specs.Ticks.{ranOf};
-ghost use Rattle.clock.specs.Inner.{TurnOf};
+ghost use Rattle.clock.specs.Inner.{Within, jumpOf, turnWithin, TurnOf};
 use crate::jump::jump;
 use crate::jump::jump_length;
-use crate::timer::overflow;
+use crate::rollover::rollover;
+use crate::timer::Advance;
 use state::Clock;
+use state::LAST_SECOND;
 use state::MICROS_PER_SECOND;
+use state::Micros;
 
 // The answer of many ticks: refusal 0 where the call was accepted, else its number in the table of refusals; how many ticks were
 // accepted; the refusal of the tick that ended them, or 0; and the clock after the accepted ones.
@@ -29,52 +32,70 @@ struct Turn {
     clock: Clock,
 }
 
-// The first of up to `most` ticks, none after one that rolls over.
+// A turn that ends within its second, at `a`.
+fn turn_within(c: Clock, a: Advance, count: u64, refusal: u8) -> Turn
+    ensures { λ r. ⌜ r ≡ turnWithin c a count refusal ⌝ }
+{
+    let us = a.micros;
+    let phase = a.phase;
+    let leftover = a.leftover;
+    let moved = Clock {
+        micros: us,
+        phase: phase,
+        leftover: leftover,
+        ..c
+    };
+    Turn {
+        refusal: refusal,
+        rolled: false,
+        count: count,
+        clock: moved,
+    }
+}
+
+// The turn of j ticks to `a`, in the last second of all: where the last of them would roll over, it is refused.
+fn last_turn(c: Clock, a: Advance, j: u64) -> Turn
+    requires { ⌜ inRange c ≡ true ⌝ }
+    requires { ⌜ c .seconds ≡ lastSecond ⌝ }
+    requires { ⌜ (0 < j) × Within (j - 1) c ⌝ }
+    requires { ⌜ a ≡ jumpOf j c ⌝ }
+    ensures { λ r. ⌜ (n : ℕ) → j ≤ n → TurnOf n c r ⌝ }
+{
+    if a.micros.0 < MICROS_PER_SECOND {
+        return turn_within(c, a, j, 0);
+    }
+    turn_within(c, jump(c, j - 1), j - 1, 3)
+}
+
+// The first of up to `most` ticks, none after one that rolls over. The last second is seen before the ticks are made: the clock as it was need not
+// be kept beyond them, which would take an instruction in ten more.
 fn take_turn(c: Clock, most: u64) -> Turn
     requires { ⌜ inRange c ≡ true ⌝ }
     requires { ⌜ 0 < most ⌝ }
     ensures { λ r. ⌜ TurnOf most c r ⌝ }
 {
     let j = jump_length(c, most);
+    if c.seconds == LAST_SECOND {
+        return last_turn(c, jump(c, j), j);
+    }
     let a = jump(c, j);
-    let us = a.micros;
+    if a.micros.0 < MICROS_PER_SECOND {
+        return turn_within(c, a, j, 0);
+    }
+    let rest = Micros(a.micros.0 - MICROS_PER_SECOND);
     let phase = a.phase;
-    if us.0 < MICROS_PER_SECOND {
-        let moved = Clock {
-            micros: us,
-            phase: phase,
-            ..c
-        };
-        return Turn {
-            refusal: 0,
-            rolled: false,
-            count: j,
-            clock: moved,
-        };
-    }
-    let b = jump(c, j - 1);
-    let us_before = b.micros;
-    let phase_before = b.phase;
-    let before = Clock {
-        micros: us_before,
-        phase: phase_before,
+    let leftover = a.leftover;
+    let rolled = rollover(Clock {
+        micros: rest,
+        phase: phase,
+        leftover: leftover,
         ..c
-    };
-    let o = overflow(before, a);
-    let clock = o.clock;
-    if o.refusal == 0 {
-        return Turn {
-            refusal: 0,
-            rolled: true,
-            count: j,
-            clock: clock,
-        };
-    }
+    });
     Turn {
-        refusal: o.refusal,
-        rolled: false,
-        count: j - 1,
-        clock: clock,
+        refusal: 0,
+        rolled: true,
+        count: j,
+        clock: rolled,
     }
 }
 

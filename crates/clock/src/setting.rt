@@ -1,6 +1,6 @@
 ghost use mathlib.Core.Path.{_≡_};
 ghost use Rattle.clock.specs.Setting.{settingOf};
-use crate::rollover::adjustment_for;
+use crate::rollover::rate_for;
 use state::AskedMicros;
 use state::Clock;
 use state::LAST_MICRO;
@@ -9,6 +9,7 @@ use state::MAX_ERROR;
 use state::Micros;
 use state::OffsetUnits;
 use state::Outcome;
+use state::PhaseParts;
 use state::PhaseUnits;
 use state::TIME_BAD;
 use state::in_range;
@@ -31,7 +32,9 @@ pub fn set(c: Clock, seconds: u64, micros: AskedMicros) -> Outcome
     }
     let none = OffsetUnits(0);
     let us = Micros(micros.0 as u32);
-    let adjustment = adjustment_for(c.kind, none, c.frequency);
+    let rate = rate_for(c.kind, none, c.frequency);
+    let adjustment = rate.adjustment;
+    let remainder = rate.remainder;
     let next = Clock {
         seconds: seconds as u32,
         micros: us,
@@ -43,6 +46,8 @@ pub fn set(c: Clock, seconds: u64, micros: AskedMicros) -> Outcome
         maxerror: Micros(MAX_ERROR),
         esterror: Micros(MAX_ERROR),
         status: TIME_BAD,
+        remainder: remainder,
+        leftover: PhaseParts(0),
         ..c
     };
     Outcome {

@@ -2,7 +2,7 @@ ghost use mathlib.Core.Path.{_≡_};
 ghost use mathlib.Core.Bool.{true};
 ghost use Rattle.state.specs.State.{inRange};
 ghost use Rattle.clock.specs.Tick.{rollsOver, tickOf};
-ghost use Rattle.clock.specs.Inner.{advanceOf};
+ghost use Rattle.clock.specs.Inner.{reachedOf, advanceOf};
 use crate::rollover::rollover;
 use state::Clock;
 use state::LAST_SECOND;
@@ -10,32 +10,57 @@ use state::MICROS_PER_SECOND;
 use state::Micros;
 use state::Outcome;
 use state::PHASE_PER_MICRO;
+use state::PhaseParts;
 use state::PhaseUnits;
 use state::device_constants;
 use state::in_range;
 
-// The microseconds and the phase that a tick leads to, before a rollover takes a second off.
+// The whole phase units that the leftover has reached, up or down, and what they leave of it.
+pub(crate) struct Reached {
+    pub(crate) units: PhaseUnits,
+    pub(crate) leftover: PhaseParts,
+}
+
+// Those of one tick, which reaches one unit at most: two comparisons, where a division would take longer than all the rest of a tick.
+fn reached_of(c: Clock) -> Reached
+    requires { ⌜ inRange c ≡ true ⌝ }
+    ensures { λ r. ⌜ r ≡ reachedOf c ⌝ }
+{
+    let divisor = device_constants(c.kind).device.divisor as i32;
+    let parts = c.leftover.0 + c.remainder.0;
+    let unit = (divisor <= parts) as i32 - (parts <= -divisor) as i32;
+    Reached {
+        units: PhaseUnits(unit),
+        leftover: PhaseParts(parts - unit * divisor),
+    }
+}
+
+// The microseconds, the phase and the leftover that a tick leads to, before a rollover takes a second off.
 pub(crate) struct Advance {
     pub(crate) micros: Micros,
     pub(crate) phase: PhaseUnits,
+    pub(crate) leftover: PhaseParts,
 }
 
-pub(crate) fn advance_of(c: Clock) -> Advance
+fn advance_of(c: Clock) -> Advance
     requires { ⌜ inRange c ≡ true ⌝ }
     ensures { λ r. ⌜ r ≡ advanceOf c ⌝ }
 {
-    let sum = c.phase.0 + c.adjustment.0;
+    let reached = reached_of(c);
+    let leftover = reached.leftover;
+    let sum = c.phase.0 + c.adjustment.0 + reached.units.0;
     let carry = sum / PHASE_PER_MICRO;
     Advance {
         micros: Micros(
             ((c.micros.0 + device_constants(c.kind).device.tick.0) as i32 + carry) as u32,
         ),
         phase: PhaseUnits(sum - carry * PHASE_PER_MICRO),
+        leftover: leftover,
     }
 }
 
 // A tick that reaches the end of its second. Apart from `tick`, so that the ticks within a second stay short.
-pub(crate) fn overflow(c: Clock, a: Advance) -> Outcome
+fn overflow(c: Clock, a: Advance) -> Outcome
     requires { ⌜ inRange c ≡ true ⌝ }
     requires { ⌜ rollsOver c ≡ true ⌝ }
     requires { ⌜ a ≡ advanceOf c ⌝ }
@@ -49,9 +74,11 @@ pub(crate) fn overflow(c: Clock, a: Advance) -> Outcome
     }
     let rest = Micros(a.micros.0 - MICROS_PER_SECOND);
     let phase = a.phase;
+    let leftover = a.leftover;
     let rolled = rollover(Clock {
         micros: rest,
         phase: phase,
+        leftover: leftover,
         ..c
     });
     Outcome {
@@ -73,10 +100,12 @@ pub fn tick(c: Clock) -> Outcome
     let a = advance_of(c);
     let us = a.micros;
     let phase = a.phase;
+    let leftover = a.leftover;
     if us.0 < MICROS_PER_SECOND {
         let advanced = Clock {
             micros: us,
             phase: phase,
+            leftover: leftover,
             ..c
         };
         return Outcome {
