@@ -1,3 +1,4 @@
+pub mod UnitLaws
 pub mod RollLaws
 pub mod TickLaws
 pub mod TickCases

@@ -3,22 +3,23 @@ use mathlib.Core.Path.{_≡_, refl, _∙_, ap}
 use mathlib.Core.Bool.{Bool, true, false, cond, _||_}
 use Prim.Native.Nat.{ℕ, _+_, _*_, _/_, _%_, _≤_, _<_}
 use native.Mathlib.Omega.{arith}
-use native.Mathlib.Nat.{lt-of-le-of-lt, div-le-self, mul-div-le, mul-le-mul-left, mul-le-mul-right, div-le-of-le-mul}
+use native.Mathlib.Nat.{lt-of-le-of-lt, div-le-self, mul-div-le, mul-le-mul-left, mul-le-mul-right, div-le-of-le-mul, mod-lt}
 use borrow.Author.Needs.{needs}
 use lib.Pow.{pow-mono, pow-pos}
 use lib.IntN.{ℤ, pos, _+ℤ_, _*ℤ_}
-use lib.Signed.{quotZ}
+use lib.Signed.{quotZ, remZ}
 use lib.Dec.{eqb, lit<}
 use borrow.Author.Tests.{eqb-true, eq-eqb}
 use mir.Syntax.{w32}
 use mir.Val.{SFits}
-use Rattle.integers.proofs.Parts.{posPart, negPart, parts, one-part, posPart-add, negPart-add, sfits-parts}
+use Rattle.integers.proofs.Parts.{posPart, negPart, parts, one-part, posPart-add, negPart-add, posPart-rem, negPart-rem, sfits-parts}
 use Rattle.integers.proofs.Linear.{self, add}
 use Rattle.integers.proofs.Ranges.{and-true}
 use Rattle.state.specs.Device.{deviceOf}
 use Rattle.state.specs.declared.state.Clock.{Clock}
 use Rattle.state.proofs.DeviceLaws.{reach, laws}
-use Rattle.state.proofs.Ok.{Adjusted, adjusted, Ok}
+use Rattle.state.proofs.DeviceLaws.{divisor-pos as unit-pos}
+use Rattle.state.proofs.Ok.{Adjusted, adjusted, Parts, Ok}
 use Rattle.clock.specs.Rollover.{shareDivisor, share, offsetLeft, intervalGrown, adjustmentFor, inserts, deletes, leapSeconds, leapStatus, rolledOver}
 
 -- n / 2^(10 + k) is at most n / 1024
@@ -31,14 +32,44 @@ div-least n k = omega (arith, mul-div-le n (shareDivisor k), mul-le-mul-right (n
 pub divisor-pos : (k : ℕ) → 0 < shareDivisor k
 divisor-pos k = pow-pos (10 + k)
 
+-- the steps by which a frequency is divided fit
+pub record Divides (kind : ℕ) (f : ℤ) : Type 0 where
+  pub frequency : SFits w32 f
+  pub quotient : SFits w32 (quotZ f (pos (deviceOf kind .divisor)))
+  pub remainder : SFits w32 (remZ f (pos (deviceOf kind .divisor)))
+
 -- the steps by which the adjustment is worked out fit
 pub record Adjusts (kind : ℕ) (s f : ℤ) : Type 0 where
+  pub divides : Divides kind f
   pub share : SFits w32 s
-  pub frequency : SFits w32 f
   pub scaled : SFits w32 (pos (deviceOf kind .scale) *ℤ s)
-  pub divided : SFits w32 (quotZ f (pos (deviceOf kind .divisor)))
   pub both : SFits w32 (pos (deviceOf kind .scale) *ℤ s +ℤ quotZ f (pos (deviceOf kind .divisor)))
   pub adjusted : SFits w32 (adjustmentFor (deviceOf kind) s f)
+
+module _ (kind : ℕ) (f : ℤ) where
+  -- what the division leaves is less than a phase unit
+  pub remainder-ok : Parts (deviceOf kind) (remZ f (pos (deviceOf kind .divisor)))
+  remainder-ok =
+      record {
+        up = rw posPart-rem (mod-lt (posPart f) (unit-pos kind));
+        down = rw negPart-rem (mod-lt (negPart f) (unit-pos kind));
+      }
+
+  module _ (hf : (posPart f ≤ 1677721600) × (negPart f ≤ 1677721600)) where
+    -- a part of the frequency in phase units a tick
+    divided-part : (n : ℕ) → n ≤ 1677721600 → n / deviceOf kind .divisor ≤ 1677721600 / deviceOf kind .divisor
+    divided-part n h = div-le-of-le-mul (deviceOf kind .divisor) (omega (arith, laws kind .frequency))
+
+    divided-parts : (posPart (quotZ f (pos (deviceOf kind .divisor))) ≤ 1677721600 / deviceOf kind .divisor) × (negPart (quotZ f (pos (deviceOf kind .divisor))) ≤ 1677721600 / deviceOf kind .divisor)
+    divided-parts = simp parts (divided-part (posPart f) (hf .0), divided-part (negPart f) (hf .1))
+
+    pub divides : Divides kind f
+    divides =
+        record {
+          frequency = sfits-parts f (omega arith);
+          quotient = sfits-parts (quotZ f (pos (deviceOf kind .divisor))) (omega (arith, divided-parts, laws kind));
+          remainder = sfits-parts (remZ f (pos (deviceOf kind .divisor))) (omega (arith, remainder-ok, laws kind));
+        }
 
 module _ (kind : ℕ) (s f : ℤ) (hs : (posPart s ≤ 2047984) × (negPart s ≤ 2047984)) (hf : (posPart f ≤ 1677721600) × (negPart f ≤ 1677721600)) where
   abbrev scaled : ℤ
@@ -50,15 +81,8 @@ module _ (kind : ℕ) (s f : ℤ) (hs : (posPart s ≤ 2047984) × (negPart s �
   scaled-parts : (posPart scaled ≤ deviceOf kind .scale * 2047984) × (negPart scaled ≤ deviceOf kind .scale * 2047984)
   scaled-parts = simp parts (mul-le-mul-left (deviceOf kind .scale) (hs .0), mul-le-mul-left (deviceOf kind .scale) (hs .1))
 
-  -- a part of the frequency in phase units a tick
-  divided-part : (n : ℕ) → n ≤ 1677721600 → n / deviceOf kind .divisor ≤ 1677721600 / deviceOf kind .divisor
-  divided-part n h = div-le-of-le-mul (deviceOf kind .divisor) (omega (arith, laws kind .frequency))
-
-  divided-parts : (posPart divided ≤ 1677721600 / deviceOf kind .divisor) × (negPart divided ≤ 1677721600 / deviceOf kind .divisor)
-  divided-parts = simp parts (divided-part (posPart f) (hf .0), divided-part (negPart f) (hf .1))
-
   both-parts : (posPart (scaled +ℤ divided) ≤ reach (deviceOf kind)) × (negPart (scaled +ℤ divided) ≤ reach (deviceOf kind))
-  both-parts = rw (posPart-add scaled divided, negPart-add scaled divided) (omega (arith, scaled-parts, divided-parts))
+  both-parts = rw (posPart-add scaled divided, negPart-add scaled divided) (omega (arith, scaled-parts, divided-parts kind f hf))
 
   pub adjustment-ok : Adjusted (deviceOf kind) (adjustmentFor (deviceOf kind) s f)
   adjustment-ok =
@@ -68,10 +92,9 @@ module _ (kind : ℕ) (s f : ℤ) (hs : (posPart s ≤ 2047984) × (negPart s �
   pub adjusts : Adjusts kind s f
   adjusts =
       record {
+        divides = divides kind f hf;
         share = sfits-parts s (omega arith);
-        frequency = sfits-parts f (omega arith);
         scaled = sfits-parts scaled (omega (arith, scaled-parts, laws kind));
-        divided = sfits-parts divided (omega (arith, divided-parts, laws kind));
         both = sfits-parts (scaled +ℤ divided) (omega (arith, both-parts, laws kind));
         adjusted = sfits-parts (adjustmentFor (deviceOf kind) s f) (omega (arith, adjustment-ok, laws kind));
       }
@@ -156,5 +179,6 @@ rolled-ok c k h =
       interval-none (c .updated) (c .interval) (eqb (c .updated) 1) refl (k .interval) (k .update),
       rest-parts c k,
       adjustment-ok (c .kind) (share c) (c .frequency .0) (share-parts c k) (k .frequency),
+      remainder-ok (c .kind) (c .frequency .0),
       leap-status (c .status) (c .seconds + 1) (k .status) (leapCase (c .status) (c .seconds + 1)),
     )

@@ -2,16 +2,21 @@
 use mathlib.Core.Path.{_≡_, refl, sym, _∙_, ap}
 use mathlib.Core.Bool.{Bool, true, false, _&&_, cond, true≢false}
 use Prim.Native.Nat.{ℕ, zero, suc, _+_, _-_, _≤_, _<_}
+use native.Mathlib.Nat.{mul-le-mul-left}
 use native.Mathlib.Omega.{arith}
 use lib.Dec.{eqb}
-use borrow.Author.Tests.{lt-leb, ne-eqb, eqb-true}
+use borrow.Author.Tests.{le-leb, lt-leb, eq-eqb, ne-eqb, eqb-true}
+use Rattle.state.specs.Units.{micros}
+use Rattle.state.specs.Device.{deviceOf}
 use Rattle.state.specs.State.{inRange}
+use Rattle.state.specs.Inner.{longestTick}
 use Rattle.state.specs.declared.state.Clock.{Clock}
 use Rattle.state.specs.declared.outcome.Outcome.{Outcome}
 use Rattle.state.proofs.Ok.{Ok, ok, ok-back}
-use Rattle.clock.specs.Tick.{moved, microsGrown, rollsOver, tickOf, tickRefusal, ticked}
+use Rattle.clock.specs.Rollover.{rolledOver}
+use Rattle.clock.specs.Tick.{moved, advanced, microsGrown, rollsOver, tickOf, tickRefusal, ticked}
 use Rattle.clock.specs.Ticks.{ended, oneMore, ranOf, catchUpRefusal, catchUpOf, ticksOf}
-use Rattle.clock.specs.Inner.{Within, advanceOf, jumpOf, adds, endsWith, TurnOf}
+use Rattle.clock.specs.Inner.{Within, advanceOf, jumpOf, adds, turnWithin, endsWith, TurnOf}
 use Rattle.clock.specs.declared.timer.Advance.{Advance}
 use Rattle.clock.specs.declared.run.CaughtUp.{CaughtUp}
 use Rattle.clock.specs.declared.run.Turn.{Turn}
@@ -65,12 +70,16 @@ module _ (c : Clock) (t : inRange c ≡ true) (l : rollsOver c ≡ false) where
   plain-run : (n : ℕ) (stop : Bool) → ranOf stop (suc n) c ≡ oneMore (ranOf stop n (stepped c))
   plain-run n stop = run-accepted c n stop (ap (λ (o : Outcome). o .refusal) plain-tick) ∙ simp (plain-tick, l, no-stop stop)
 
+-- fewer ticks reach no farther
+pub fewer-within : (c : Clock) {i j : ℕ} → i ≤ j → Within j c → Within i c
+fewer-within c h w = omega (arith, w, mul-le-mul-left (longestTick (deviceOf (c .kind))) h)
+
 -- j ticks within the second, and the rest
 module _ (c : Clock) (k : Ok c) (n : ℕ) (stop : Bool) where
   later-run : (j m : ℕ) → j + m ≡ n → Within j c → ranOf stop n c ≡ adds j (ranOf stop m (jumped j c))
   later-run zero m e w = let e' : n ≡ m = omega (arith, e) in rw (e', jumped-none c k) (sym (adds-none (ranOf stop m c)))
   later-run (suc j) m e w =
-      let w' : Within j c = omega (arith, w) in
+      let w' : Within j c = fewer-within c (omega arith) w in
       let t : inRange (jumped j c) ≡ true = ok-back (jumped j c) (jumped-ok c k j w') in
       let h = next-jump c k j w' in
       let l : rollsOver (jumped j c) ≡ false = lt-leb 1000000 (microsGrown (jumped j c)) (omega (arith, jumped-ok c k (suc j) w, ap (λ (a : Advance). a .micros .0) h)) in
@@ -134,8 +143,7 @@ module _ (n j m : ℕ) (c : Clock) (t : inRange c ≡ true) (e : j + suc m ≡ n
         run = λ stop. split stop ∙ ap (adds j) (run-refused here m stop h) ∙ simp (ne-eqb (tickOf here .refusal) 0 h, refused-kept here h);
       }
 
--- The same of what the code computes, at a number of ticks j that counts the last: a is where they lead to, b where those before the last
--- lead to.
+-- The same of what the code computes, at a number of ticks j that counts the last: a is where they lead to, b where those before the last lead to.
 module _ (n j : ℕ) (c : Clock) (t : inRange c ≡ true) (some : 0 < j) (most : j ≤ n) (w : Within (j - 1) c) where
   counted : suc (j - 1) ≡ j
   counted = omega (arith, some)
@@ -146,39 +154,51 @@ module _ (n j : ℕ) (c : Clock) (t : inRange c ≡ true) (some : 0 < j) (most :
   rest-eq : j - 1 + suc (n - j) ≡ n
   rest-eq = omega (arith, some, most)
 
-  pub stays-turn : (a : Advance) → a ≡ jumpOf j c → a .micros .0 < 1000000
-      → TurnOf n c (record { refusal = 0; rolled = false; count = j; clock = moved c (a .micros) (a .phase) })
+  pub stays-turn : (a : Advance) → a ≡ jumpOf j c → a .micros .0 < 1000000 → TurnOf n c (turnWithin c a j 0)
   stays-turn a e less =
       let h = ap (λ (x : Advance). x .micros .0) (e ∙ jump-eq) in
       let l : rollsOver (jumped (j - 1) c) ≡ false = lt-leb 1000000 (microsGrown (jumped (j - 1) c)) (omega (arith, less, h)) in
       rw e (rw counted at (plain-turn n (j - 1) (n - j) c t rest-eq w l))
 
-  module _ (b : Advance) (h : b ≡ jumpOf (j - 1) c) where
+  -- the last of the ticks reaches the end of the second
+  module _ (a : Advance) (e : a ≡ jumpOf j c) (more : 1000000 ≤ a .micros .0) where
     abbrev before : Clock
-    before = moved c (b .micros) (b .phase)
+    before = jumped (j - 1) c
 
-    before-eq : before ≡ jumped (j - 1) c
-    before-eq = ap (λ (x : Advance). moved c (x .micros) (x .phase)) h
+    before-in-range : inRange before ≡ true
+    before-in-range = here-in-range n (j - 1) (n - j) c t rest-eq w
 
-    pub before-in-range : inRange before ≡ true
-    before-in-range = ap inRange before-eq ∙ here-in-range n (j - 1) (n - j) c t rest-eq w
+    grown : a ≡ advanceOf before
+    grown = e ∙ jump-eq
 
-    pub before-advance : jumpOf j c ≡ advanceOf before
-    before-advance = jump-eq ∙ ap advanceOf (sym before-eq)
+    rolls-there : rollsOver before ≡ true
+    rolls-there = le-leb 1000000 (microsGrown before) (omega (arith, more, ap (λ (x : Advance). x .micros .0) grown))
 
-    module _ (o : Outcome) (e : o ≡ tickOf before) where
-      pub rolled-turn : rollsOver before ≡ true → o .refusal ≡ 0
-          → TurnOf n c (record { refusal = 0; rolled = true; count = j; clock = o .clock })
-      rolled-turn l z =
-          let l' = ap rollsOver (sym before-eq) ∙ l in
-          let e' = e ∙ ap tickOf before-eq in
-          rw e' (rw counted at (roll-turn n (j - 1) (n - j) c t rest-eq w l' (ap (λ (x : Outcome). x .refusal) (sym e') ∙ z)))
+    pub rest-in-range : inRange (moved c (micros (a .micros .0 - 1000000)) (a .phase) (a .leftover)) ≡ true
+    rest-in-range =
+        let k = ok before before-in-range in
+        rw grown (ok-back (advanced before (microsGrown before - 1000000)) (advanced-ok before k (omega (arith, grown-most before k))))
 
-      pub refused-turn : (o .refusal ≡ 0 → ⊥)
-          → TurnOf n c (record { refusal = o .refusal; rolled = false; count = j - 1; clock = o .clock })
-      refused-turn z =
-          let e' = e ∙ ap tickOf before-eq in
-          rw e' (last-turn n (j - 1) (n - j) c t rest-eq w (λ h'. z (ap (λ (x : Outcome). x .refusal) e' ∙ h')))
+    module _ (earlier : c .seconds < 4294967295) where
+      tick-rolls : tickOf before ≡ record { refusal = 0; clock = rolledOver (moved c (micros (a .micros .0 - 1000000)) (a .phase) (a .leftover)) }
+      unfolding tickOf tickRefusal ticked
+      tick-rolls = rw grown (simp (before-in-range, rolls-there, ne-eqb (c .seconds) 4294967295 (λ h. omega arith)))
+
+      pub rolled-turn : (next : Clock) → next ≡ rolledOver (moved c (micros (a .micros .0 - 1000000)) (a .phase) (a .leftover))
+          → TurnOf n c (record { refusal = 0; rolled = true; count = j; clock = next })
+      rolled-turn next h =
+          let l = roll-turn n (j - 1) (n - j) c t rest-eq w rolls-there (ap (λ (x : Outcome). x .refusal) tick-rolls) in
+          rw h (rw (counted, tick-rolls) at l)
+
+    module _ (last : c .seconds ≡ 4294967295) where
+      tick-refused : tickOf before ≡ record { refusal = 3; clock = before }
+      unfolding tickOf tickRefusal
+      tick-refused = simp (before-in-range, rolls-there, eq-eqb (c .seconds) 4294967295 last)
+
+      pub refused-turn : (b : Advance) → b ≡ jumpOf (j - 1) c → TurnOf n c (turnWithin c b (j - 1) 3)
+      refused-turn b h =
+          let l = last-turn n (j - 1) (n - j) c t rest-eq w (λ z. absurd (omega (arith, ap (λ (x : Outcome). x .refusal) tick-refused, z))) in
+          rw h (rw tick-refused at l)
 
 -- A run of up to n ticks that has `left` of them to come at the clock d, after a turn.
 module _ (stop : Bool) (n left : ℕ) (d : Clock) (t : Turn) (most : left ≤ n) (k : TurnOf left d t) where

@@ -11,18 +11,31 @@ use Rattle.integers.proofs.Ranges.{and-true}
 use Rattle.state.specs.State.{inRange, lastSecond, lastMicro}
 use Rattle.state.specs.declared.state.Clock.{Clock}
 use Rattle.state.specs.declared.units.AskedMicros.{AskedMicros}
-use Rattle.state.proofs.Ok.{Ok, ok}
+use Rattle.state.specs.Device.{deviceOf}
+use Rattle.state.proofs.DeviceLaws.{divisor-pos}
+use Rattle.state.proofs.Ok.{Parts, Ok, ok}
 use Rattle.clock.specs.Setting.{setTo, settable, settingRefusal, settingOf}
-use Rattle.clock.proofs.RollLaws.{adjustment-ok}
+use Rattle.clock.proofs.RollLaws.{adjustment-ok, remainder-ok}
 
 pub data SettingCase (c : Clock) (s : ℕ) (u : AskedMicros) : Type 0 where
   refused : (n : ℕ) → settingOf c s u ≡ record { refusal = n; clock = c } → 0 < n → SettingCase c s u
   done : Ok (setTo c s u) → settingOf c s u ≡ record { refusal = 0; clock = setTo c s u } → SettingCase c s u
 
+-- no leftover
+none-within : (kind : ℕ) → Parts (deviceOf kind) (pos 0)
+none-within kind = record { up = divisor-pos kind; down = divisor-pos kind }
+
 pub set-ok : (c : Clock) (s : ℕ) (u : AskedMicros) → Ok c → settable s u ≡ true → Ok (setTo c s u)
 set-ok c s u k h =
     let a = and-true (leb s lastSecond) (leb (u .0) lastMicro) h in
-    search (needs, leb-true s lastSecond (a .0), leb-true (u .0) lastMicro (a .1), adjustment-ok (c .kind) (pos 0) (c .frequency .0) (omega arith) (k .frequency))
+    search (
+      needs,
+      leb-true s lastSecond (a .0),
+      leb-true (u .0) lastMicro (a .1),
+      adjustment-ok (c .kind) (pos 0) (c .frequency .0) (omega arith) (k .frequency),
+      remainder-ok (c .kind) (c .frequency .0),
+      none-within (c .kind),
+    )
 
 module _ (c : Clock) (s : ℕ) (u : AskedMicros) where
   by-tests : (a b : Bool) → inRange c ≡ a → settable s u ≡ b → SettingCase c s u

@@ -59,7 +59,7 @@ fn last_turn(c: Clock, a: Advance, j: u64) -> Turn
     requires { ⌜ c .seconds ≡ lastSecond ⌝ }
     requires { ⌜ (0 < j) × Within (j - 1) c ⌝ }
     requires { ⌜ a ≡ jumpOf j c ⌝ }
-    ensures { λ r. ⌜ (n : ℕ) → j ≤ n → TurnOf n c r ⌝ }
+    ensures { λ r. ⌜ ((n : ℕ) → j ≤ n → TurnOf n c r) ⌝ }
 {
     if a.micros.0 < MICROS_PER_SECOND {
         return turn_within(c, a, j, 0);

@@ -7,8 +7,8 @@ use Prim.Native.Nat.{ℕ, suc, _+_, _*_, _/_, _%_, _<_}
 use native.Mathlib.Nat.{div-eq-of-lt, mul-add-div-right, zero-div, div-add-mod', mod-lt, mod-eq-of-lt, zero-mod, add-mul}
 use native.Mathlib.Omega.{arith}
 use lib.IntN.{ℤ, pos, negsuc, _+ℤ_, _-ℤ_, _*ℤ_, +ℤ-idr, +ℤ-idl}
-use lib.Signed.{quotZ}
-use Rattle.integers.proofs.Parts.{posPart, negPart, parts, one-part, eq-parts, posPart-add, negPart-add, posPart-neg, negPart-neg, posPart-quot, negPart-quot}
+use lib.Signed.{quotZ, remZ}
+use Rattle.integers.proofs.Parts.{posPart, negPart, parts, one-part, eq-parts, posPart-add, negPart-add, posPart-neg, negPart-neg, posPart-quot, negPart-quot, posPart-rem, negPart-rem}
 use Rattle.integers.proofs.Linear.{Diff, self, add, sub, timesR}
 
 -- what a division leaves of a sum
@@ -41,6 +41,10 @@ module _ (b : ℕ) (h : 0 < b) where
 
   pub rest-lt : (s : ℤ) → (posPart (rest s b) < b) × (negPart (rest s b) < b)
   rest-lt s = simp (rest-posPart, rest-negPart) (mod-lt (posPart s) h, mod-lt (negPart s) h)
+
+  -- the remainder of the division is that
+  pub rem-rest : (s : ℤ) → remZ s (pos b) ≡ rest s b
+  rem-rest s = eq-parts (remZ s (pos b)) (rest s b) (omega (arith, rest-posPart s, rest-negPart s, posPart-rem s b, negPart-rem s b))
 
   -- the sum less than b from 0: nothing is carried yet
   from-small : (s d : ℤ) → posPart s < b → negPart s < b → quotZ (s +ℤ d) (pos b) ≡ quotZ s (pos b) +ℤ quotZ (rest s b +ℤ d) (pos b)

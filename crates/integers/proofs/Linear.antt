@@ -1,11 +1,11 @@
 -- An integer as a difference of two naturals: `Diff z p n` says that z is p - n. The difference of a sum is had from those of its
 -- summands, so that a linear statement on integers becomes one on naturals, with no case split for `omega`.
 use mathlib.Core.Path.{_≡_, refl, sym, ap, _∙_}
-use Prim.Native.Nat.{ℕ, _+_, _*_, _/_}
+use Prim.Native.Nat.{ℕ, _+_, _*_, _/_, _%_}
 use native.Mathlib.Omega.{arith}
 use native.Mathlib.Nat.{mul-add, add-mul}
 use lib.IntN.{ℤ, pos, negℤ, _+ℤ_, _-ℤ_, _*ℤ_}
-use lib.Signed.{quotZ}
+use lib.Signed.{quotZ, remZ}
 use Rattle.integers.proofs.Parts.{posPart, negPart, parts}
 
 pub record Diff (z : ℤ) (p n : ℕ) : Type 0 where
@@ -34,3 +34,6 @@ timesR {a} {p} {n} k x = record { eq = simp parts (sym (add-mul (posPart a) n k)
 
 pub quot : (a : ℤ) (k : ℕ) → Diff (quotZ a (pos k)) (posPart a / k) (negPart a / k)
 quot a k = record { eq = simp parts }
+
+pub rem : (a : ℤ) (k : ℕ) → Diff (remZ a (pos k)) (posPart a % k) (negPart a % k)
+rem a k = record { eq = simp parts }

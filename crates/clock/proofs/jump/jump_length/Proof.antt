@@ -7,7 +7,8 @@ use Rattle.state.proofs.Ok.{ok}
 use Rattle.clock.proofs.jump.jump_length.Statement.{statement}
 use Rattle.clock.proofs.jump.jump_length.Tie as tie
 
-module _ (us r m : ℕ) (h : us ≤ 999999) (fits : r ≤ 4294967296) (least : r * m ≤ 4294967296) where
+-- r longest ticks m (phase units), in 2^-32, go into a microsecond
+module _ (us r m : ℕ) (h : us ≤ 999999) (fits : r ≤ 4294967296) (least : r * m ≤ 4294967296 * 268435456) where
   abbrev left : ℕ
   left = 999999 - us
 
@@ -17,11 +18,11 @@ module _ (us r m : ℕ) (h : us ≤ 999999) (fits : r ≤ 4294967296) (least : r
       omega (arith, mul-le-mul-right r h)
 
   -- by so many ticks the microseconds that are left are not used up
-  some-left : m * (left * r / 4294967296) ≤ left
+  some-left : m * (left * r / 4294967296) ≤ 268435456 * left
   some-left = omega (arith, mul-le-mul-left m (mul-div-le (left * r) 4294967296), mul-le-mul-left left least)
 
   -- nor by fewer
-  pub within : (j : ℕ) → 0 < j → j ≤ left * r / 4294967296 + 1 → us + m * (j - 1) ≤ 999999
+  pub within : (j : ℕ) → 0 < j → j ≤ left * r / 4294967296 + 1 → 268435456 * us + m * (j - 1) ≤ 268435456 * 999999
   within j some most =
       let e : j - 1 ≤ left * r / 4294967296 = omega arith in
       omega (arith, some-left, mul-le-mul-left m e)

@@ -1,4 +1,4 @@
--- `clock::jump::per_micro`: so many times the most of a tick is no more than one, on either device.
+-- `clock::jump::per_micro`: so many of the longest ticks are no more than a microsecond, on either device.
 use native.Mathlib.Omega.{arith}
 use borrow.Author.Tests.{ne-eqb}
 use Rattle.state.specs.Device.{deviceOf}

@@ -17,13 +17,13 @@ maxerror-grown-requires c κs = known c .maxerror
 share-of-requires : tie.Need-share-of-requires
 share-of-requires c κs = search needs
 
-sub-t8 : tie.Need-sub-t8
-sub-t8 c =
+sub-t10 : tie.Need-sub-t10
+sub-t10 c =
     let k = known (c .before .before .before .before .before .before) in
     simp (c .before .before .before .before .share-of .ensures, toZ-ofZ (fits-offset _ k), toZ-ofZ (fits-share-of _ k)) (fits-rest _ k)
 
-adjustment-for-requires : tie.Need-adjustment-for-requires
-adjustment-for-requires c κs =
+rate-for-requires : tie.Need-rate-for-requires
+rate-for-requires c κs =
     let s = c .before .before .before .before .before .before in
     let k = known s in (
       rw (c .before .before .before .before .share-of .ensures) (parts-within _ _ (share (s .args .c)) (share-parts _ k .0) (share-parts _ k .1)),
@@ -32,7 +32,7 @@ adjustment-for-requires c κs =
 
 interval-grown-requires : tie.Need-interval-grown-requires
 interval-grown-requires c κs =
-    let k = known (c .before .before .before .before .before .before .before) in (k .updated, k .interval)
+    let k = known (c .before .before .before .before .before .before .before .before .before) in (k .updated, k .interval)
 
 add-leap-step : tie.Need-add-leap-step
 add-leap-step c = search needs
@@ -43,12 +43,12 @@ leap-step-requires c κs = search needs
 returns : tie.Need-returns
 unfolding rolledOver
 returns c =
-    let m = c .before .before .before .before .before .before .before .before .before .before .before .before in
+    let m = c .before .before .before .before .before .before .before .before .before .before .before .before .before .before .before in
     let k = known (m .before .before) in
     simp (
-      c .before .before .before .before .leap-step .ensures,
-      c .before .before .before .before .before .before .interval-grown .ensures,
-      c .before .before .before .before .before .before .before .adjustment-for .ensures,
+      c .before .before .before .before .before .leap-step .ensures,
+      c .before .before .before .before .before .before .before .interval-grown .ensures,
+      c .before .before .before .before .before .before .before .before .before .before .rate-for .ensures,
       m .share-of .ensures,
       m .before .maxerror-grown .ensures,
       toZ-ofZ (fits-offset _ k),
@@ -62,8 +62,8 @@ rollover-spec =
     (tie.spec
     maxerror-grown-requires
     share-of-requires
-    sub-t8
-    adjustment-for-requires
+    sub-t10
+    rate-for-requires
     interval-grown-requires
     add-leap-step
     leap-step-requires

@@ -48,24 +48,24 @@ returns-2 : tie.Need-returns-2
 unfolding settingOf settingRefusal
 returns-2 c = simp (inside (c .before .before), denied c)
 
-cast-t14 : tie.Need-cast-t14
-cast-t14 c = record { fits = omega (arith, time-fits (c .before) .1) }
+cast-t16 : tie.Need-cast-t16
+cast-t16 c = record { fits = omega (arith, time-fits (c .before) .1) }
 
-adjustment-for-requires : tie.Need-adjustment-for-requires
-adjustment-for-requires c κs =
+rate-for-requires : tie.Need-rate-for-requires
+rate-for-requires c κs =
     let e = c .before .before .before in
     let a = e .before .before .args .c in
     let k = ok a (inside e) in
     (refl, parts-within _ _ (a .frequency .0) (k .frequency .0) (k .frequency .1))
 
-cast-t14-2 : tie.Need-cast-t14-2
-cast-t14-2 c = record { fits = omega (arith, time-fits (c .before .before) .0) }
+cast-t16-2 : tie.Need-cast-t16-2
+cast-t16-2 c = record { fits = omega (arith, time-fits (c .before .before .before .before) .0) }
 
 returns-3 : tie.Need-returns-3
 unfolding settingOf settingRefusal
 returns-3 c =
-    let e = c .before .before .before in
-    simp (inside (e .before .before), allowed e, c .before .adjustment-for .ensures)
+    let e = c .before .before .before .before .before in
+    simp (inside (e .before .before), allowed e, c .before .before .before .rate-for .ensures)
 
 pub set-spec : {M : Type 1} → statement M
 set-spec =
@@ -76,7 +76,7 @@ set-spec =
     cast-if2
     cast-if2-2
     returns-2
-    cast-t14
-    adjustment-for-requires
-    cast-t14-2
+    cast-t16
+    rate-for-requires
+    cast-t16-2
     returns-3)

@@ -14,14 +14,14 @@ returns c =
     let p = c .before .before .pre in
     simp (p .0, p .1 .0, eq-eqb _ _ (c .if1 .taken))
 
-sub-t7 : tie.Need-sub-t7
-sub-t7 c =
+sub-t8 : tie.Need-sub-t8
+sub-t8 c =
     let p = c .before .before .before .pre in
     rw (p .1 .1) (leb-true _ _ (p .1 .0))
 
 rollover-requires : tie.Need-rollover-requires
 rollover-requires c κs =
-    let i = c .before .before .before .before .before .before .before in
+    let i = c .before .before .before .before .before .before .before .before .before in
     let p = i .before .before .pre in
     let d = i .before .before .args .c in
     let k = ok d (p .0) in (
@@ -32,9 +32,9 @@ rollover-requires c κs =
 returns-2 : tie.Need-returns-2
 unfolding tickOf tickRefusal ticked
 returns-2 c =
-    let i = c .before .before .before .before .before .before .before .before in
+    let i = c .before .before .before .before .before .before .before .before .before .before in
     let p = i .before .before .pre in
     simp (p .0, p .1 .0, p .1 .1, ne-eqb _ _ (i .if1 .left), c .rollover .ensures)
 
 pub overflow-spec : {M : Type 1} → statement M
-overflow-spec = tie.close (tie.spec returns sub-t7 rollover-requires returns-2)
+overflow-spec = tie.close (tie.spec returns sub-t8 rollover-requires returns-2)

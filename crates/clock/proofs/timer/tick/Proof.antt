@@ -26,14 +26,14 @@ advance-of-requires c κs = inside c
 returns-2 : tie.Need-returns-2
 unfolding tickOf tickRefusal ticked
 returns-2 c =
-    let i = c .before .before .before .before .before in
-    let a = i .before .before .before .before in
+    let i = c .before .before .before .before .before .before in
+    let a = i .before .before .before .before .before in
     let l : rollsOver (a .before .before .before .args .c) ≡ false = rw (a .advance-of .ensures) at (lt-leb _ _ (i .if2 .taken)) in
     simp (inside (a .before), l, a .advance-of .ensures)
 
 overflow-requires : tie.Need-overflow-requires
 overflow-requires c κs =
-    let a = c .before .before .before .before in
+    let a = c .before .before .before .before .before in
     (inside (a .before), (rw (a .advance-of .ensures) at (le-leb _ _ (c .if2 .left)), a .advance-of .ensures))
 
 returns-3 : tie.Need-returns-3
