@@ -166,7 +166,8 @@ requested c r =
     (record {
       kind = c .kind;
       time = timeOf c;
-      correction = record { offset = offsetUnits (offsetAfter c r); adjustment = c .adjustment };
+      correction =
+          record { offset = offsetUnits (offsetAfter c r); adjustment = c .adjustment; remainder = c .remainder };
       tuning = record { frequency = frequencyUnits (frequencyAfter c r); constant = constantWritten c r };
       update = record { updated = updatedAfter c r; interval = intervalAfter c r };
       errors = record { maxerror = maxerrorWritten c r; esterror = esterrorWritten c r };

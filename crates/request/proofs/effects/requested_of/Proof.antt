@@ -46,17 +46,17 @@ returns : tie.Need-returns
 unfolding requested
 returns c =
     simp (
-      c .before .before .before .status-after .ensures,
-      c .before .before .before .before .error-written2 .ensures,
-      c .before .before .before .before .before .is-set3 .ensures,
-      c .before .before .before .before .before .before .error-written .ensures,
-      c .before .before .before .before .before .before .before .is-set2 .ensures,
-      c .before .before .before .before .before .before .before .before .interval-after .ensures,
-      c .before .before .before .before .before .before .before .before .before .number-written .ensures,
-      c .before .before .before .before .before .before .before .before .before .before .is-set .ensures,
-      c .before .before .before .before .before .before .before .before .before .before .before .constant-written .ensures,
-      c .before .before .before .before .before .before .before .before .before .before .before .before .frequency-after .ensures,
-      c .before .before .before .before .before .before .before .before .before .before .before .before .before .offset-after .ensures,
+      c .before .before .before .before .before .status-after .ensures,
+      c .before .before .before .before .before .before .error-written2 .ensures,
+      c .before .before .before .before .before .before .before .is-set3 .ensures,
+      c .before .before .before .before .before .before .before .before .error-written .ensures,
+      c .before .before .before .before .before .before .before .before .before .is-set2 .ensures,
+      c .before .before .before .before .before .before .before .before .before .before .interval-after .ensures,
+      c .before .before .before .before .before .before .before .before .before .before .before .number-written .ensures,
+      c .before .before .before .before .before .before .before .before .before .before .before .before .is-set .ensures,
+      c .before .before .before .before .before .before .before .before .before .before .before .before .before .constant-written .ensures,
+      c .before .before .before .before .before .before .before .before .before .before .before .before .before .before .frequency-after .ensures,
+      c .before .before .before .before .before .before .before .before .before .before .before .before .before .before .before .offset-after .ensures,
     )
 
 pub requested-of-spec : {M : Type 1} → statement M
