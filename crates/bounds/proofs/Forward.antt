@@ -5,11 +5,12 @@ use mathlib.Core.List.{List, [], _∷_}
 use Prim.Native.Nat.{ℕ, _+_, _*_, _≤_}
 use native.Mathlib.Omega.{arith}
 use borrow.Author.Tests.{not-true}
-use Rattle.integers.proofs.Parts.{negPart, parts}
+use Rattle.integers.proofs.Parts.{negPart, one-part, negPart-quot}
+use Rattle.integers.proofs.Linear.{self, add}
 use Rattle.integers.proofs.Ranges.{and-true}
 use Rattle.state.specs.Device.{deviceOf}
 use Rattle.clock.specs.Rollover.{rolledOver, inserts, leapSeconds}
-use Rattle.clock.specs.Tick.{tickOf, carry, microsGrown}
+use Rattle.clock.specs.Tick.{tickOf, unitReached, phaseSum, carry, microsGrown}
 use Rattle.clock.specs.Setting.{settingOf}
 use Rattle.state.specs.declared.state.Clock.{Clock}
 use Rattle.state.specs.declared.units.AskedMicros.{AskedMicros}
@@ -17,6 +18,7 @@ use Rattle.state.proofs.Ok.{Ok}
 use Rattle.clock.proofs.RollLaws.{LeapCase, ins, del, none, leapCase}
 use Rattle.clock.proofs.SettingCases.{SettingCase, refused, done, settingCase}
 use Rattle.clock.proofs.TickCases.{TickCase, out, last, plain, rolls, tickCase}
+use Rattle.clock.proofs.UnitLaws.{unit-parts}
 use Rattle.clock.proofs.TickLaws.{grown-eq}
 use Rattle.request.specs.Request.{requested, requestOf}
 use Rattle.request.specs.declared.request.Request.{Request}
@@ -39,7 +41,9 @@ leap-least status s (none e f) h = simp (e, f) (omega arith)
 module _ (c : Clock) (k : Ok c) where
   -- what a tick takes back of its own microseconds
   carry-least : measureOf (c .kind) .least + negPart (carry c) ≤ deviceOf (c .kind) .tick .0
-  carry-least = simp parts (omega (arith, measured (c .kind)))
+  carry-least =
+      let e = add (add (self (c .phase .0)) (self (c .adjustment .0))) (self (unitReached c)) in
+      rw negPart-quot (omega (arith, e .eq, one-part (phaseSum c), unit-parts c k, k .adjustment .low, measured (c .kind) .short, measured (c .kind) .forward))
 
   -- the least that a tick adds
   grown-least : c .micros .0 + measureOf (c .kind) .least ≤ microsGrown c

@@ -5,6 +5,7 @@ pub mod Singly
 pub mod Exact
 pub mod Moved
 pub mod Forward
+pub mod Seconds
 pub mod Theorem
 pub mod Interval
 pub mod Apart

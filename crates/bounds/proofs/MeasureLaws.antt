@@ -10,12 +10,12 @@ use Rattle.state.specs.Device.{recorder256, recorder1024, deviceOf}
 use Rattle.state.specs.declared.device.Device.{Device}
 use Rattle.bounds.specs.Measure.{Measure, measure256, measure1024, measureOf, EachInUnits}
 
--- the time of the shortest and of the longest tick (phase units)
+-- the time of the shortest and of the longest tick, with a unit of the leftover (phase units)
 pub shortest : Device → ℕ
-shortest d = 268435456 * d .tick .0 + posPart (d .least .0) - negPart (d .least .0)
+shortest d = 268435456 * d .tick .0 + posPart (d .least .0) - negPart (d .least .0) - 1
 
 pub longest : Device → ℕ
-longest d = 268435456 * d .tick .0 + posPart (d .most .0)
+longest d = 268435456 * d .tick .0 + posPart (d .most .0) + 1
 
 pub record MeasureLaws (d : Device) (m : Measure) : Type 0 where
   -- a phase unit is as many units of exact time as the device's divisor says
@@ -23,8 +23,8 @@ pub record MeasureLaws (d : Device) (m : Measure) : Type 0 where
   -- the tick of every device has as many units of exact time, which are 1/rate of 2^-24 us
   pub tick : m .tick ≡ 16777216000000
   pub parts : m .parts ≡ d .rate
-  pub short : shortest d + negPart (d .least .0) ≡ 268435456 * d .tick .0 + posPart (d .least .0)
-  pub long : longest d ≡ 268435456 * d .tick .0 + posPart (d .most .0)
+  pub short : shortest d + negPart (d .least .0) + 1 ≡ 268435456 * d .tick .0 + posPart (d .least .0)
+  pub long : longest d ≡ 268435456 * d .tick .0 + posPart (d .most .0) + 1
   -- rate - 2 of the longest ticks, after a rollover that began them late, do not make a second
   pub fewest : d .rate * longest d + 268435456 * (d .tick .0 + 3) ≤ 268435456000000 + 2 * longest d
   -- rate + 1 of the shortest make more than a second

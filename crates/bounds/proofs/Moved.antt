@@ -17,6 +17,8 @@ use Rattle.clock.specs.Setting.{settingOf}
 use Rattle.state.specs.declared.device.Device.{Device}
 use Rattle.state.specs.declared.state.Clock.{Clock}
 use Rattle.state.specs.declared.units.AskedMicros.{AskedMicros}
+use Rattle.state.proofs.Ok.{Ok}
+use Rattle.clock.proofs.UnitLaws.{unit-parts}
 use Rattle.clock.proofs.RollLaws.{rest-posPart, rest-negPart}
 use Rattle.clock.proofs.SettingCases.{SettingCase, refused, done, settingCase}
 use Rattle.clock.proofs.TickCases.{TickCase, out, last, plain, rolls, tickCase}
@@ -39,36 +41,32 @@ pub record Count (d : Device) (us : ℕ) (p : ℤ) (j : ℕ) : Type 0 where
   pub high : us * 268435456 + posPart p ≤ 268435456 * (d .tick .0 + 2) + j * longest d + negPart p
 
 -- the device of a clock
-abbrev device : Clock → Device
+abbrev pub device : Clock → Device
 device c = deviceOf (c .kind)
 
-module _ (c : Clock) (b : Book) (i : Inv c b) (j : ℕ) where
-  count-step : Count (device c) (c .micros .0) (c .phase .0) j → Count (device c) (microsGrown c) (phaseLeft c) (j + 1)
+module _ (c : Clock) (k : Ok c) (j : ℕ) where
+  pub count-step : Count (device c) (c .micros .0) (c .phase .0) j → Count (device c) (microsGrown c) (phaseLeft c) (j + 1)
   count-step h =
       let t = measured (c .kind) in
       record {
-        low = omega (arith, left-diff c b i .eq, grown-eq c (i .range), i .range .adjustment, t .short, h);
-        high = omega (arith, left-diff c b i .eq, grown-eq c (i .range), i .range .adjustment, t .long, h);
+        low = omega (arith, left-diff c .eq, grown-eq c k, k .adjustment, unit-parts c k, t .short, h);
+        high = omega (arith, left-diff c .eq, grown-eq c k, k .adjustment, unit-parts c k, t .long, h);
       }
 
   -- at least rate - 1 ticks
   pub ticks-least : Count (device c) (c .micros .0) (c .phase .0) j → 1000000 ≤ microsGrown c → device c .rate ≤ j + 2
   ticks-least h l =
-      let m = lt-of-mul-lt-mul-right (longest (device c)) {m = device c .rate} {n = j + 3} (omega (arith, count-step h .high, left-parts c (i .range), measured (c .kind) .fewest)) in
+      let m = lt-of-mul-lt-mul-right (longest (device c)) {m = device c .rate} {n = j + 3} (omega (arith, count-step h .high, left-parts c k, measured (c .kind) .fewest)) in
       omega (arith, m)
 
   -- at most rate + 1
   pub ticks-most : Count (device c) (c .micros .0) (c .phase .0) j → j ≤ device c .rate
   ticks-most h =
-      let m = lt-of-mul-lt-mul-right (shortest (device c)) {m = j} {n = device c .rate + 1} (omega (arith, h .low, i .range .phase, i .range .micros, measured (c .kind) .mostly)) in
+      let m = lt-of-mul-lt-mul-right (shortest (device c)) {m = j} {n = device c .rate + 1} (omega (arith, h .low, k .phase, k .micros, measured (c .kind) .mostly)) in
       omega (arith, m)
 
-count-start : (c : Clock) (b : Book) → Inv c b → 1000000 ≤ microsGrown c → Count (device c) (microsGrown c - 1000000) (phaseLeft c) 0
-count-start c b i l =
-    record {
-      low = omega (arith, left-parts c (i .range));
-      high = omega (arith, left-parts c (i .range), grown-most c (i .range));
-    }
+pub count-start : (c : Clock) → Ok c → 1000000 ≤ microsGrown c → Count (device c) (microsGrown c - 1000000) (phaseLeft c) 0
+count-start c k l = record { low = omega (arith, left-parts c k); high = omega (arith, left-parts c k, grown-most c k) }
 
 -- One sign of an offset at rate r: a asked, l left, o the own share, m moved after j ticks since the last rollover; `old` is what earlier
 -- shares took.
@@ -120,7 +118,7 @@ idle-ticks r o j e = record { least = rw e (omega arith); most = rw e (omega ari
 
 module _ (c : Clock) (b : Book) (i : Inv c b) where
   counted-ticks : (o j : ℕ) → Count (device c) (c .micros .0) (c .phase .0) j → 1000000 ≤ microsGrown c → Ticks (device c .rate) o j
-  counted-ticks o j h l = record { least = mul-le-mul-right o (ticks-least c b i j h l); most = mul-le-mul-right o (ticks-most c b i j h) }
+  counted-ticks o j h l = record { least = mul-le-mul-right o (ticks-least c (i .range) j h l); most = mul-le-mul-right o (ticks-most c (i .range) j h) }
 
   -- of either part of the own share, which is 0 where there is none
   ticks-of : {o : ℕ} (j : ℕ) → Pace (device c) (c .micros .0) (c .phase .0) (b .ownShare) j
@@ -130,7 +128,7 @@ module _ (c : Clock) (b : Book) (i : Inv c b) where
 
   pace-tick : (j : ℕ) → Pace (device c) (c .micros .0) (c .phase .0) (b .ownShare) j → Pace (device c) (microsGrown c) (phaseLeft c) (b .ownShare) (j + 1)
   pace-tick j (idle p n) = idle p n
-  pace-tick j (counted h) = counted (count-step c b i j h)
+  pace-tick j (counted h) = counted (count-step c (i .range) j h)
 
   tick-paid : TickCase c → Paid c b → Paid (tickOf c .clock) (callBook c call.Tick b)
   unfolding rolledOver
@@ -156,7 +154,7 @@ module _ (c : Clock) (b : Book) (i : Inv c b) where
         moved = add (p .moved) (self (b .ownShare));
         P = side-roll (posPart (offsetLeft c)) (posPart (share c)) (rest-posPart c k) (ticks-of (p .j) (p .pace) (λ zero _. zero) l) (p .P);
         N = side-roll (negPart (offsetLeft c)) (negPart (share c)) (rest-negPart c k) (ticks-of (p .j) (p .pace) (λ _ zero. zero) l) (p .N);
-        pace = counted (count-start c b i l);
+        pace = counted (count-start c k l);
       })
 
   set-paid : (s : ℕ) (u : AskedMicros) → SettingCase c s u → Paid c b → Paid (settingOf c s u .clock) (callBook c (call.Setting s u) b)

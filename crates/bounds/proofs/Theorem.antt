@@ -1,33 +1,35 @@
--- Demand 3 holds of every list of events: the invariants of its single calls are those of its clock and book.
+-- Demand 3 holds of every list of events: the invariants of its single calls are those of its clock and book. And nothing of the time is lost.
 use mathlib.Core.Path.{_≡_, ap, subst}
 use mathlib.Core.Bool.{true}
 use mathlib.Core.List.{List, [], _∷_, _++_}
-use Prim.Native.Nat.{ℕ, _+_, _*_, _/_, _≤_}
+use Prim.Native.Nat.{ℕ, _+_, _*_, _/_, _≤_, _<_}
 use native.Mathlib.Omega.{arith}
 use native.Mathlib.Nat.{mul-le-mul-left}
 use borrow.Author.Tests.{leb-true}
-use lib.IntN.{pos, _+ℤ_, _-ℤ_}
-use Rattle.integers.proofs.Parts.{one-part, abs-parts}
+use lib.IntN.{pos, natAbs, _+ℤ_, _-ℤ_}
+use Rattle.integers.proofs.Parts.{posPart, negPart, one-part, abs-parts}
 use Rattle.integers.proofs.Linear.{self, lit, add, sub, times}
+use Rattle.integers.proofs.Carrying.{same}
 use Rattle.integers.proofs.Ranges.{and-true}
 use Rattle.state.specs.Device.{kindRange}
 use Rattle.state.specs.State.{freshClock}
 use Rattle.clock.specs.Tick.{rollsOver}
 use Rattle.state.specs.declared.state.Clock.{Clock}
-use Rattle.state.proofs.DeviceLaws.{laws}
+use Rattle.state.specs.declared.units.AskedMicros.{AskedMicros}
 use Rattle.event.specs.Event.{stepOf}
-use Rattle.event.specs.declared.event.Call.the-variants.{Tick, Reading}
+use Rattle.event.specs.declared.event.Call.the-variants.{Tick, Setting, Reading}
 use Rattle.event.specs.declared.event.Event.{Event}
 use Rattle.event.specs.declared.event.Event.the-variants.{Call}
-use Rattle.bounds.specs.Calls.{after, clockAfter, accepted, ticksAmong}
+use Rattle.bounds.specs.Calls.{next, after, clockAfter, clockFrom, accepted, ticksAmong}
 use Rattle.bounds.specs.Singly.{singleTicks, singlyFrom, singly, asEvents}
 use Rattle.bounds.specs.Measure.{measureOf}
 use Rattle.bounds.specs.Book.{Book, emptyBook, bookFrom}
-use Rattle.bounds.specs.Demand.{bookOf, NearExact, FirstBound, AtRollover, SecondBound, ThirdBound, Demand3OfEveryList}
+use Rattle.bounds.specs.Demand.{bookOn, bookOf, NearExact, FirstBound, AtRollover, SecondBound, ThirdBound, Demand3OfEveryList}
+use Rattle.bounds.specs.Lossless.{heldTime, NothingLost, NothingLostInEveryList}
 use Rattle.bounds.proofs.Runs.{after-kind, read-ok}
 use Rattle.bounds.proofs.MeasureLaws.{measured}
 use Rattle.bounds.proofs.Singly.{after-singly, clock-last, clock-then, book-last}
-use Rattle.bounds.proofs.Exact.{told, perPhase, Inv, run-inv, fresh-inv}
+use Rattle.bounds.proofs.Exact.{told, perPhase, Inv, run-inv, run-set, fresh-inv}
 use Rattle.bounds.proofs.Moved.{Paid, run-paid, fresh-paid, paid-bound}
 use Rattle.bounds.proofs.Forward.{forward}
 
@@ -41,33 +43,59 @@ module _ (kind : ℕ) (h : kindRange kind ≡ true) where
   paid : (events : List Event) → Paid (clockAfter kind events) (bookOf kind events)
   paid events = rw (after-singly (freshClock kind) events) (run-paid (freshClock kind) emptyBook (singly kind events) started (fresh-paid kind))
 
-clock-kind : (kind : ℕ) (events : List Event) → clockAfter kind events .kind ≡ kind
-clock-kind kind events = rw (after-singly (freshClock kind) events) (after-kind (freshClock kind) (singly kind events))
+-- a list that begins with an accepted setting
+set-inv : (start : Clock) (s : ℕ) (u : AskedMicros) (events : List Event) → accepted start (Setting s u) ≡ true
+    → Inv (clockFrom start (Call (Setting s u) ∷ events)) (bookOn start (Call (Setting s u) ∷ events))
+unfolding singlyFrom
+set-inv start s u events t =
+    rw (after-singly start (Call (Setting s u) ∷ events)) (run-set start s u (singlyFrom (next start (Setting s u)) events) t)
 
--- the clock's time without its phase
-near : (c : Clock) (b : Book) → Inv c b → NearExact (measureOf (c .kind)) (told c) b
-near c b i =
-    let l = laws (c .kind) in
-    let m = measured (c .kind) in
-    let E = measureOf (c .kind) .perMicro in
-    let d = times (perPhase c) (add (lit (268435456 * told c)) (self (c .phase .0))) in
-    let z = pos (E * told c) -ℤ b .exact in
-    let dz = sub (lit (E * told c)) (self (b .exact)) in
-    let p = mul-le-mul-left (perPhase c) (i .range .phase .0) in
-    let n = mul-le-mul-left (perPhase c) (i .range .phase .1) in
-    let u : E / 268435456 ≡ perPhase c = omega (arith, m .perMicro) in
-    let un = ap (λ (x : ℕ). x * b .n) u in
-    let r = ap (λ (x : ℕ). x * told c) (m .perMicro) in
-    omega (arith, abs-parts z, dz .eq, one-part z, d .eq, i .near .high, i .near .low, p, n, un, r, m .perMicro, l .sizes)
+clock-kind : (start : Clock) (events : List Event) → clockFrom start events .kind ≡ start .kind
+clock-kind start events = rw (after-singly start events) (after-kind start (singlyFrom start events))
+
+-- The clock's time without its phase and its leftover, both of which together are less than a microsecond.
+module _ (c : Clock) (b : Book) (i : Inv c b) where
+  abbrev perMicro : ℕ
+  perMicro = measureOf (c .kind) .perMicro
+
+  below : natAbs (pos (perMicro * told c) -ℤ b .exact) < perMicro
+  below =
+      let m = measured (c .kind) in
+      let d = add (lit (268435456 * told c)) (self (c .phase .0)) in
+      let z = pos (perMicro * told c) -ℤ b .exact in
+      let dz = sub (lit (perMicro * told c)) (self (b .exact)) in
+      let p = mul-le-mul-left (perPhase c) (i .range .phase .0) in
+      let n = mul-le-mul-left (perPhase c) (i .range .phase .1) in
+      let r = ap (λ (x : ℕ). x * told c) (m .perMicro) in
+      omega (arith, abs-parts z, dz .eq, one-part z, ap (λ (x : ℕ). perPhase c * x) (d .eq), i .kept .eq, p, n, r, m .perMicro, i .range .leftover)
+
+  near : NearExact (measureOf (c .kind)) (told c) b
+  near = omega (arith, below)
+
+  held : heldTime c ≡ b .exact
+  held =
+      let m = measured (c .kind) in
+      let u : perMicro / 268435456 ≡ perPhase c = omega (arith, m .perMicro) in
+      let d = add (lit (268435456 * told c)) (self (c .phase .0)) in
+      let r = ap (λ (x : ℕ). x * told c) (m .perMicro) in
+      same (add (add (lit (perMicro * told c)) (times (perMicro / 268435456) (self (c .phase .0)))) (self (c .leftover .0))) (self (b .exact))
+      (omega (arith, i .kept .eq, ap (λ (x : ℕ). perPhase c * x) (d .eq), r, ap (λ (x : ℕ). x * posPart (c .phase .0)) u, ap (λ (x : ℕ). x * negPart (c .phase .0)) u))
+
+module _ (start : Clock) (events : List Event) (i : Inv (clockFrom start events) (bookOn start events)) where
+  abbrev last : Clock
+  last = clockFrom start events
+
+  first-from : FirstBound stepOf start events
+  first-from =
+      let r = read-ok last (i .range) in
+      record { accepted = simp r; near = simp r (rw (clock-kind start events) at (near last (bookOn start events) i)) }
+
+  lossless : NothingLost start events
+  lossless =
+      let r = read-ok last (i .range) in
+      record { held = held last (bookOn start events) i; near = simp r (rw (clock-kind start events) at (below last (bookOn start events) i)) }
 
 module _ (kind : ℕ) (h : kindRange kind ≡ true) where
-  first : (events : List Event) → FirstBound stepOf kind events
-  first events =
-      let c = clockAfter kind events in
-      let i = inv kind h events in
-      let r = read-ok c (i .range) in
-      record { accepted = simp r; near = simp r (rw (clock-kind kind events) at (near c (bookOf kind events) i)) }
-
   -- a tick that rolls over adds the own share to what is moved
   moved-at : (before : List Event) → accepted (clockAfter kind before) Tick ≡ true → rollsOver (clockAfter kind before) ≡ true
       → bookOf kind (before ++ (Call Tick ∷ [])) .moved ≡ bookOf kind before .moved +ℤ bookOf kind before .ownShare
@@ -79,7 +107,7 @@ module _ (kind : ℕ) (h : kindRange kind ≡ true) where
       let c = clockAfter kind before in
       let b = bookOf kind before in
       let p = and-true (accepted c Tick) (rollsOver c) r in
-      rw (moved-at before (p .0) (p .1)) (rw (clock-kind kind before) at (paid-bound c b (inv kind h before) (paid kind h before) (leb-true _ _ (p .1))))
+      rw (moved-at before (p .0) (p .1)) (rw (clock-kind (freshClock kind) before) at (paid-bound c b (inv kind h before) (paid kind h before) (leb-true _ _ (p .1))))
 
   second : (events : List Event) → SecondBound stepOf kind events
   second events =
@@ -98,7 +126,19 @@ module _ (kind : ℕ) (h : kindRange kind ≡ true) where
       let r = read-ok c (inv kind h before .range) in
       let s = read-ok (after c es) (rw t at (inv kind h (before ++ (Call Reading ∷ between)) .range)) in
       let f = forward c (bookOf kind before) es (inv kind h before) (rw q at u) in
-      simp (q, t, r, s) (subst (λ (k : ℕ). told c + measureOf k .least * ticksAmong c es ≤ told (after c es)) (clock-kind kind before) f)
+      simp (q, t, r, s) (subst (λ (k : ℕ). told c + measureOf k .least * ticksAmong c es ≤ told (after c es)) (clock-kind (freshClock kind) before) f)
 
 pub demand3 : Demand3OfEveryList
-demand3 kind h events = record { first = first kind h events; second = second kind h events; third = third kind h events }
+demand3 =
+    record {
+      fresh = λ kind h events.
+          record { first = first-from (freshClock kind) events (inv kind h events); second = second kind h events; third = third kind h events };
+      set = λ start s u events t. first-from start (Call (Setting s u) ∷ events) (set-inv start s u events t);
+    }
+
+pub nothing-lost : NothingLostInEveryList
+nothing-lost =
+    record {
+      fresh = λ kind h events. lossless (freshClock kind) events (inv kind h events);
+      set = λ start s u events t. lossless start (Call (Setting s u) ∷ events) (set-inv start s u events t);
+    }

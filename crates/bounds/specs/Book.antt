@@ -1,12 +1,11 @@
 -- "The book of demand 3": what a list of calls should have come to, by the calls alone. It runs the rules itself, from a fresh
--- clock over the same list. `rules` is the clock of that run: its phase and adjustment only decide which ticks roll over or are
+-- clock over the same list, or from the clock that an accepted setting is the first call of. `rules` is the clock of that run: its phase and adjustment only decide which ticks roll over or are
 -- refused, and no entry takes them. What a tick is worth, and in which units, is the measure of the clock's kind.
 use Prim.Native.Nat.{ℕ, _+_, _*_}
 use mathlib.Core.Bool.{cond}
 use mathlib.Core.List.{List, [], _∷_}
 use lib.IntN.{ℤ, pos, _+ℤ_, _-ℤ_, _*ℤ_}
 use Rattle.state.specs.Units.{offsetUnitsPerMicro, microsPerSecond}
-use Rattle.state.specs.State.{freshClock}
 use Rattle.clock.specs.Rollover.{share}
 use Rattle.clock.specs.Tick.{rollsOver}
 use Rattle.state.specs.declared.state.Clock.{Clock}
@@ -22,7 +21,7 @@ use Rattle.bounds.specs.Measure.{Measure, measureOf, perFrequency, perSh
 pub record Book : Type 0 where
   -- exact time (units of the measure: 2^-32 us, or 2^-34 us)
   pub exact : ℤ
-  -- ticks since the last setting or the start
+  -- ticks since the last setting or the start; since document 02's "whatever n is" no bound takes it
   pub n : ℕ
   -- "The frequency and share in force are those from which the adjustment was last worked out, at a rollover or setting":
   -- frequency in force (frequency units, 2^-24 us per second)
@@ -118,7 +117,3 @@ callBook rules Reading b = b
 unfoldable pub bookFrom : Clock → Book → List Call → Book
 bookFrom rules b [] = b
 bookFrom rules b (e ∷ es) = bookFrom (next rules e) (callBook rules e b) es
-
--- the book of a list of calls on a fresh clock of a kind
-abbrev pub bookAfter : ℕ → List Call → Book
-bookAfter kind calls = bookFrom (freshClock kind) emptyBook calls

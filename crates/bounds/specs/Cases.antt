@@ -1,5 +1,5 @@
--- "Marked cases (proved together)", the two edges at the last second, and the interval, the second device and an offset too soon of document 02: a
--- table with a row for each, and what it means that a row holds. A row starts at a fresh clock of kind 0, or of the kind that it names, but for the fields
+-- "Marked cases (proved together)", the two edges at the last second, and the interval, the second device, an offset too soon and the kept remainder of
+-- document 02: a table with a row for each, and what it means that a row holds. A row starts at a fresh clock of kind 0, or of the kind that it names, but for the fields
 -- that it names. Where it says "rollover", ticks are made up to and with the next that rolls over.
 use Prim.Native.Nat.{ℕ, zero, suc, _+_}
 use mathlib.Core.Path.{_≡_}
@@ -8,7 +8,8 @@ use mathlib.Core.List.{List, [], _∷_}
 use lib.Dec.{eqb}
 use lib.IntN.{ℤ, pos, negℤ}
 use lib.Signed.{leZ}
-use Rattle.state.specs.Units.{offsetUnits, phaseUnits, frequencyUnits}
+use Rattle.state.specs.Units.{offsetUnits, phaseUnits, phaseParts, frequencyUnits}
+use Rattle.state.specs.Units.{micros as us}
 use Rattle.state.specs.Device.{kind256, kind1024}
 use Rattle.state.specs.State.{freshClock, errorsOf, whole, statusOk, statusIns, statusDel, statusOop}
 use Rattle.clock.specs.Tick.{carry, rollsOver}
@@ -24,6 +25,7 @@ use Rattle.bounds.specs.Measure.{measureOf}
 pub data CountField : Type 0 where
   kind : CountField
   seconds : CountField
+  micros : CountField
   constant : CountField
   updated : CountField
   interval : CountField
@@ -34,6 +36,8 @@ pub data SignedField : Type 0 where
   left : SignedField
   frequency : SignedField
   adjustment : SignedField
+  remainder : SignedField
+  leftover : SignedField
 
 abbrev pub countCode : CountField → ℕ
 countCode seconds = 0
@@ -42,15 +46,17 @@ countCode updated = 2
 countCode interval = 3
 countCode status = 4
 countCode kind = 5
+countCode micros = 6
 
 abbrev pub signedCode : SignedField → ℕ
 signedCode phase = 0
 signedCode left = 1
 signedCode frequency = 2
 signedCode adjustment = 3
+signedCode remainder = 4
+signedCode leftover = 5
 
--- What a row starts with, where that is not fresh. No row can start with other microseconds, a negative count, a carry or a refusal:
--- there is no way to say so.
+-- What a row starts with, where that is not fresh. No row can start with a negative count, a carry or a refusal: there is no way to say so.
 pub data Start : Type 0 where
   countStart : CountField → ℕ → Start
   signedStart : SignedField → ℤ → Start
@@ -84,13 +90,15 @@ given ss =
       time =
           record {
             seconds = countOr ss seconds (fresh .seconds);
-            micros = fresh .micros;
+            micros = us (countOr ss micros (fresh .micros .0));
             phase = phaseUnits (signedOr ss phase (fresh .phase .0));
+            leftover = phaseParts (signedOr ss leftover (fresh .leftover .0));
           };
       correction =
           record {
             offset = offsetUnits (signedOr ss left (fresh .offset .0));
             adjustment = phaseUnits (signedOr ss adjustment (fresh .adjustment .0));
+            remainder = phaseParts (signedOr ss remainder (fresh .remainder .0));
           };
       tuning =
           record {
@@ -142,7 +150,6 @@ isDone rollover s = rollsOver (s .got) && eqb (s .refused) 0
 pub data Value : Type 0 where
   countIs : CountField → ℕ → Value
   signedIs : SignedField → ℤ → Value
-  micros : ℕ → Value
   carried : ℤ → Value
   refusal : ℕ → Value
 
@@ -157,6 +164,7 @@ f isℤ z = signedIs f z
 abbrev pub countOf : CountField → Clock → ℕ
 countOf kind c = c .kind
 countOf seconds c = c .seconds
+countOf micros c = c .micros .0
 countOf constant c = c .constant
 countOf updated c = c .updated
 countOf interval c = c .interval
@@ -167,6 +175,8 @@ signedOf phase c = c .phase .0
 signedOf left c = c .offset .0
 signedOf frequency c = c .frequency .0
 signedOf adjustment c = c .adjustment .0
+signedOf remainder c = c .remainder .0
+signedOf leftover c = c .leftover .0
 
 abbrev pub equal : ℤ → ℤ → Bool
 equal a b = leZ a b && leZ b a
@@ -174,7 +184,6 @@ equal a b = leZ a b && leZ b a
 abbrev pub isSeen : Value → Seen → Bool
 isSeen (countIs f n) s = eqb (countOf f (s .clock)) n
 isSeen (signedIs f z) s = equal (signedOf f (s .clock)) z
-isSeen (micros n) s = eqb (s .clock .micros .0) n
 isSeen (carried z) s = equal (carry (s .got)) z
 isSeen (refusal n) s = eqb (s .refused) n
 
@@ -239,14 +248,16 @@ set s u = call.Setting s (record { 0 = u })
 
 -- The table of document 01, row by row ("frequency unchanged" at two frequencies; document 02: "the marked interval 5,000 becomes 1,024"),
 -- after it the two edges, and then document 02's: the interval across an inserted and a deleted second, up to its limit, and none without an
--- offset or after a setting; the second device by the rows of the first, its kind kept by a setting, and no third; and an offset a rollover too
--- soon, which leaves the interval, and in time, which sets it back.
+-- offset or after a setting; the second device by the rows of the first, its kind kept by a setting, and no third; an offset a rollover too
+-- soon, which leaves the interval, and in time, which sets it back; and the remainder: worked out at a rollover, with the frequency's sign, and in
+-- force from the tick after it on; a unit that is just reached, up and down, and one that is not; a unit that c is taken with, and that refusal 3 is
+-- judged with; a setting, which clears the leftover; and a remainder of a unit, which is out of range of the first device alone.
 abbrev pub markedCases : List Case
 markedCases =
     row []
-    (tickTimes 255 then (seconds is 0 ∷ micros 996093 ∷ phase isℤ pos 201326592 ∷ []) ∷ [])
+    (tickTimes 255 then (seconds is 0 ∷ micros is 996093 ∷ phase isℤ pos 201326592 ∷ []) ∷ [])
     ∷ row []
-    (tickTimes 256 then (seconds is 1 ∷ micros 0 ∷ phase isℤ pos 0 ∷ []) ∷ [])
+    (tickTimes 256 then (seconds is 1 ∷ micros is 0 ∷ phase isℤ pos 0 ∷ []) ∷ [])
     ∷ row (constant ≔ 0 ∷ frequency ≔ℤ pos 0 ∷ [])
     (callOf (asks (pos 1000)) then (refusal 0 ∷ [])
     ∷ rollover then (seconds is 1 ∷ left isℤ pos 16368000 ∷ adjustment isℤ pos 68132864 ∷ []) ∷ [])
@@ -262,9 +273,9 @@ markedCases =
     ∷ row (updated ≔ 1 ∷ interval ≔ 1024 ∷ constant ≔ 0 ∷ frequency ≔ℤ pos 0 ∷ [])
     (callOf (asks (pos 127999)) then (refusal 0 ∷ frequency isℤ pos 131070976 ∷ []) ∷ [])
     ∷ row (phase ≔ℤ pos 268435455 ∷ adjustment ≔ℤ pos 303037440 ∷ [])
-    (tickTimes 1 then (carried (pos 2) ∷ micros 3908 ∷ phase isℤ pos 34601983 ∷ []) ∷ [])
+    (tickTimes 1 then (carried (pos 2) ∷ micros is 3908 ∷ phase isℤ pos 34601983 ∷ []) ∷ [])
     ∷ row (phase ≔ℤ negℤ (pos 200000000) ∷ adjustment ≔ℤ negℤ (pos 168819712) ∷ [])
-    (tickTimes 1 then (carried (negℤ (pos 1)) ∷ micros 3905 ∷ phase isℤ negℤ (pos 100384256) ∷ []) ∷ [])
+    (tickTimes 1 then (carried (negℤ (pos 1)) ∷ micros is 3905 ∷ phase isℤ negℤ (pos 100384256) ∷ []) ∷ [])
     ∷ row (seconds ≔ 86399 ∷ status ≔ statusIns ∷ [])
     (rollover then (seconds is 86399 ∷ status is statusOop ∷ [])
     ∷ rollover then (seconds is 86400 ∷ status is statusOk ∷ []) ∷ [])
@@ -292,9 +303,9 @@ markedCases =
     ∷ callOf (set 0 0) then (refusal 0 ∷ updated is 0 ∷ interval is 0 ∷ [])
     ∷ callOf (asks (pos 1000)) then (refusal 0 ∷ updated is 1 ∷ interval is 0 ∷ []) ∷ [])
     ∷ row (kind ≔ kind1024 ∷ [])
-    (tickTimes 1023 then (seconds is 0 ∷ micros 999023 ∷ phase isℤ pos 117440512 ∷ []) ∷ [])
+    (tickTimes 1023 then (seconds is 0 ∷ micros is 999023 ∷ phase isℤ pos 117440512 ∷ []) ∷ [])
     ∷ row (kind ≔ kind1024 ∷ [])
-    (tickTimes 1024 then (seconds is 1 ∷ micros 0 ∷ phase isℤ pos 0 ∷ []) ∷ [])
+    (tickTimes 1024 then (seconds is 1 ∷ micros is 0 ∷ phase isℤ pos 0 ∷ []) ∷ [])
     ∷ row (kind ≔ kind1024 ∷ constant ≔ 0 ∷ frequency ≔ℤ pos 0 ∷ [])
     (callOf (asks (pos 1000)) then (refusal 0 ∷ [])
     ∷ rollover then (seconds is 1 ∷ left isℤ pos 16368000 ∷ adjustment isℤ pos 151250944 ∷ []) ∷ [])
@@ -304,9 +315,9 @@ markedCases =
     ∷ row (kind ≔ kind1024 ∷ left ≔ℤ negℤ (pos 1023) ∷ constant ≔ 0 ∷ frequency ≔ℤ negℤ (pos 63) ∷ [])
     (rollover then (seconds is 1 ∷ left isℤ negℤ (pos 1023) ∷ adjustment isℤ pos 150994944 ∷ []) ∷ [])
     ∷ row (kind ≔ kind1024 ∷ phase ≔ℤ pos 268435455 ∷ adjustment ≔ℤ pos 209977088 ∷ [])
-    (tickTimes 1 then (carried (pos 1) ∷ micros 977 ∷ phase isℤ pos 209977087 ∷ []) ∷ [])
+    (tickTimes 1 then (carried (pos 1) ∷ micros is 977 ∷ phase isℤ pos 209977087 ∷ []) ∷ [])
     ∷ row (kind ≔ kind1024 ∷ phase ≔ℤ negℤ (pos 200000000) ∷ adjustment ≔ℤ pos 92012800 ∷ [])
-    (tickTimes 1 then (carried (pos 0) ∷ micros 976 ∷ phase isℤ negℤ (pos 107987200) ∷ []) ∷ [])
+    (tickTimes 1 then (carried (pos 0) ∷ micros is 976 ∷ phase isℤ negℤ (pos 107987200) ∷ []) ∷ [])
     ∷ row (kind ≔ kind1024 ∷ frequency ≔ℤ pos 6400 ∷ [])
     (callOf (set 5 0) then (refusal 0 ∷ kind is kind1024 ∷ adjustment isℤ pos 150995044 ∷ []) ∷ [])
     ∷ row (kind ≔ 2 ∷ [])
@@ -317,6 +328,34 @@ markedCases =
     ∷ callOf asksNothing then (refusal 0 ∷ interval is 63 ∷ [])
     ∷ rollover then (interval is 64 ∷ [])
     ∷ callOf (asks (pos 1000)) then (refusal 0 ∷ left isℤ pos 16384000 ∷ frequency isℤ pos 64000 ∷ interval is 0 ∷ []) ∷ [])
+    ∷ row (frequency ≔ℤ negℤ (pos 17) ∷ [])
+    (rollover then (seconds is 1 ∷ micros is 0 ∷ adjustment isℤ pos 67108863 ∷ remainder isℤ negℤ (pos 1) ∷ leftover isℤ pos 0 ∷ [])
+    ∷ tickTimes 1 then (phase isℤ pos 67108863 ∷ leftover isℤ negℤ (pos 1) ∷ [])
+    ∷ tickTimes 14 then (phase isℤ pos 201326577 ∷ leftover isℤ negℤ (pos 15) ∷ [])
+    ∷ tickTimes 1 then (carried (pos 0) ∷ micros is 62499 ∷ phase isℤ pos 268435439 ∷ leftover isℤ pos 0 ∷ []) ∷ [])
+    ∷ row (kind ≔ kind1024 ∷ frequency ≔ℤ pos 191 ∷ [])
+    (rollover then (seconds is 1 ∷ adjustment isℤ pos 150994946 ∷ remainder isℤ pos 63 ∷ leftover isℤ pos 0 ∷ [])
+    ∷ tickTimes 1 then (phase isℤ pos 150994946 ∷ leftover isℤ pos 63 ∷ [])
+    ∷ tickTimes 1 then (carried (pos 1) ∷ phase isℤ pos 33554437 ∷ leftover isℤ pos 62 ∷ []) ∷ [])
+    ∷ row (remainder ≔ℤ pos 1 ∷ leftover ≔ℤ pos 15 ∷ [])
+    (tickTimes 1 then (phase isℤ pos 67108865 ∷ remainder isℤ pos 1 ∷ leftover isℤ pos 0 ∷ []) ∷ [])
+    ∷ row (remainder ≔ℤ negℤ (pos 15) ∷ leftover ≔ℤ negℤ (pos 1) ∷ [])
+    (tickTimes 1 then (phase isℤ pos 67108863 ∷ leftover isℤ pos 0 ∷ []) ∷ [])
+    ∷ row (remainder ≔ℤ negℤ (pos 15) ∷ leftover ≔ℤ pos 15 ∷ [])
+    (tickTimes 2 then (phase isℤ pos 134217728 ∷ leftover isℤ negℤ (pos 15) ∷ [])
+    ∷ tickTimes 1 then (phase isℤ pos 201326591 ∷ leftover isℤ negℤ (pos 14) ∷ []) ∷ [])
+    ∷ row (phase ≔ℤ pos 201326591 ∷ remainder ≔ℤ pos 1 ∷ leftover ≔ℤ pos 15 ∷ [])
+    (tickTimes 1 then (carried (pos 1) ∷ micros is 3907 ∷ phase isℤ pos 0 ∷ leftover isℤ pos 0 ∷ []) ∷ [])
+    ∷ row (seconds ≔ 4294967295 ∷ micros ≔ 996093 ∷ phase ≔ℤ pos 201326591 ∷ remainder ≔ℤ pos 1 ∷ leftover ≔ℤ pos 15 ∷ [])
+    (tickTimes 1 then (refusal 3 ∷ micros is 996093 ∷ phase isℤ pos 201326591 ∷ leftover isℤ pos 15 ∷ []) ∷ [])
+    ∷ row (seconds ≔ 4294967295 ∷ micros ≔ 996093 ∷ phase ≔ℤ pos 201326591 ∷ remainder ≔ℤ pos 1 ∷ leftover ≔ℤ pos 14 ∷ [])
+    (tickTimes 1 then (refusal 0 ∷ micros is 999999 ∷ phase isℤ pos 268435455 ∷ leftover isℤ pos 15 ∷ []) ∷ [])
+    ∷ row (frequency ≔ℤ negℤ (pos 1677721599) ∷ remainder ≔ℤ pos 3 ∷ leftover ≔ℤ pos 7 ∷ [])
+    (callOf (set 5 0) then (refusal 0 ∷ adjustment isℤ negℤ (pos 37748735) ∷ remainder isℤ negℤ (pos 15) ∷ leftover isℤ pos 0 ∷ []) ∷ [])
+    ∷ row (remainder ≔ℤ pos 16 ∷ [])
+    (callOf (set 5 0) then (refusal 1 ∷ remainder isℤ pos 16 ∷ []) ∷ [])
+    ∷ row (kind ≔ kind1024 ∷ remainder ≔ℤ pos 16 ∷ leftover ≔ℤ negℤ (pos 63) ∷ [])
+    (tickTimes 1 then (refusal 0 ∷ leftover isℤ negℤ (pos 47) ∷ []) ∷ [])
     ∷ []
 
 abbrev pub MarkedCases : Type 0

@@ -67,7 +67,7 @@ unpaid c =
     (record {
       kind = c .kind;
       time = timeOf c;
-      correction = record { offset = c .offset; adjustment = freshClock (c .kind) .adjustment };
+      correction = record { offset = c .offset; adjustment = freshClock (c .kind) .adjustment; remainder = c .remainder };
       tuning = tuningOf c;
       update = updateOf c;
       errors = errorsOf c;
