@@ -211,7 +211,7 @@ module _ (s : List ℕ) where
         ∙ ap (λ (es : List call.Event). callsFrom k s 0 ++ es) (some-found s (p .fits) (now .place) (Call Reading) (p .next) (omega (arith, inside)) (p .print) more))
 
     accepted : stepOf (clockAfter kind256 (callsOfFirst k s)) (single Reading) .refusal ≡ 0
-    accepted = demand3 kind256 refl (callsOfFirst k s) .first .accepted
+    accepted = demand3 .fresh kind256 refl (callsOfFirst k s) .first .accepted
 
     tells : Tells s k
     tells =
@@ -228,4 +228,4 @@ module _ (s : List ℕ) where
 
 pub demand3-of-history : Demand3OfEveryHistory
 unfolding replayOf
-demand3-of-history s = record { demand = demand3 kind256 refl (callsOf s); clock = clocks s (stepsToEnd s); clocks = clocks s; prints = tells s }
+demand3-of-history s = record { demand = demand3 .fresh kind256 refl (callsOf s); clock = clocks s (stepsToEnd s); clocks = clocks s; prints = tells s }
