@@ -56,6 +56,8 @@ clockAt s sixty =
       maxerror = freshClock kind256 .maxerror;
       esterror = freshClock kind256 .esterror;
       status = cond sixty statusOop statusBad;
+      remainder = freshClock kind256 .remainder;
+      leftover = freshClock kind256 .leftover;
     }
 
 module _ (s : ℕ) (h : s ≤ lastSecond) where
