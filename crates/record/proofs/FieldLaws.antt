@@ -1,6 +1,6 @@
 -- A field, by what the number reader told: one law for each case of the code. And what is known of every field that was read.
 use mathlib.Core.Path.{_≡_, refl, sym, _∙_, ap}
-use mathlib.Core.Bool.{Bool, true, false}
+use mathlib.Core.Bool.{Bool, true, false, cond}
 use mathlib.Core.List.{List}
 use mathlib.Core.Logic.{⊎-elim}
 use Prim.Native.Nat.{ℕ}
@@ -13,13 +13,13 @@ use Rattle.number.specs.declared.decode.Decoded.the-variants as D
 use Rattle.number.specs.Reading.{Found, number, refused, numberAt, told}
 use Rattle.number.proofs.Lists.{either}
 use Rattle.state.specs.Device.{deviceOf}
-use Rattle.state.specs.State.{phaseRange, offsetRange, frequencyRange, adjustmentRange}
+use Rattle.state.specs.State.{phaseRange, offsetRange, frequencyRange, adjustmentRange, partsRange}
 use Rattle.state.specs.declared.device.Device.{Device}
 use Rattle.state.proofs.DeviceLaws.{fits-least, fits-most}
 use Rattle.number.specs.Layout.{judgedBy, fieldAt, placeAt, suits, mappedRange}
 use Rattle.record.specs.Layout.{lastRange}
-use Rattle.record.specs.Inner.{toldField, upTo, betweenZ, mappedPhase, mappedOffset, mappedFrequency, lastMost}
-use Rattle.record.proofs.Ranges.{phase-test, offset-test, frequency-test, last-test}
+use Rattle.record.specs.Inner.{toldField, upTo, betweenZ, mappedPhase, mappedOffset, mappedFrequency, mappedParts, lastMost}
+use Rattle.record.proofs.Ranges.{phase-test, offset-test, frequency-test, parts-test, last-test}
 use Rattle.record.specs.declared.field.Field.{Field}
 use Rattle.record.specs.declared.field.Field.the-variants as F
 
@@ -65,9 +65,18 @@ pub adjustment-field : (s : List ℕ) (at kind : ℕ) {d : Device} → d ≡ dev
     → fieldAt (mappedRange (betweenZ (toZ w32 (ofZ w32 (d .least .0))) (toZ w32 (ofZ w32 (d .most .0))))) s at ≡ fieldAt (mappedRange (adjustmentRange (deviceOf kind))) s at
 adjustment-field s at kind e = rw e (rw (toZ-ofZ (fits-least kind), toZ-ofZ (fits-most kind)))
 
--- what follows the flag of the earlier update, tested by the largest number that version and flag allow
+-- tested by a largest number that was computed
+most-field : (range : ℕ → Bool) (s : List ℕ) (at : ℕ) {m most : ℕ} → m ≡ most → ((n : ℕ) → upTo most n ≡ range n) → fieldAt (upTo m) s at ≡ fieldAt range s at
+most-field range s at e h = ap (λ (m : ℕ). fieldAt (upTo m) s at) e ∙ field-same _ _ s at h
+
+-- what follows the flag of the earlier update: what version and flag allow
 pub last-field : (s : List ℕ) (at version flag : ℕ) {m : ℕ} → m ≡ lastMost version flag → fieldAt (upTo m) s at ≡ fieldAt (lastRange version flag) s at
-last-field s at version flag e = ap (λ (m : ℕ). fieldAt (upTo m) s at) e ∙ field-same _ _ s at (last-test version flag)
+last-field s at version flag e = most-field _ s at e (last-test version flag)
+
+-- a remainder or a leftover, where it is held: what the record's kind allows
+pub parts-field : (here : Bool) (s : List ℕ) (at kind : ℕ) {m : ℕ} → m ≡ mappedParts kind
+    → placeAt here (upTo m) s at ≡ placeAt here (mappedRange (partsRange (deviceOf kind))) s at
+parts-field here s at kind e = ap (λ (x : Found). cond here x (number 0 at)) (most-field _ s at e (parts-test kind))
 
 -- a field that was read is in its range
 judged-in : (range : ℕ → Bool) (x : Found) {v k : ℕ} → number v k ≡ judgedBy range x → range v ≡ true

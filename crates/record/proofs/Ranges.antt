@@ -3,7 +3,7 @@ use mathlib.Core.Path.{_≡_, refl, sym, _∙_, ap}
 use mathlib.Core.Bool.{Bool, true, false, cond, _&&_}
 use mathlib.Core.Bool.{and-true as and-one}
 use mathlib.Core.Logic.{⊎-elim}
-use Prim.Native.Nat.{ℕ, suc, _*_, _/_, _%_, _^_, _≤_, _<_}
+use Prim.Native.Nat.{ℕ, zero, suc, _*_, _-_, _/_, _%_, _^_, _≤_, _<_}
 use native.Mathlib.Omega.{arith}
 use lib.Dec.{leb, eqb, leb·suc-suc}
 use lib.IntN.{ℤ, pos, negsuc}
@@ -16,15 +16,12 @@ use Rattle.number.specs.Mapping.{unmapped}
 use Rattle.number.proofs.Lists.{either}
 use Rattle.number.specs.Layout.{mappedRange, suits}
 use Rattle.number.proofs.Mapping.{even, odd}
-use Rattle.state.specs.Device.{kindRange}
-use Rattle.state.specs.State.{lastSecond, longestInterval, zeroUnlessFlag, phaseRange, offsetRange, frequencyRange}
-use Rattle.record.specs.Layout.{holdsKind, lastRange}
-use Rattle.record.specs.Inner.{upTo, betweenZ, mappedPhase, mappedOffset, mappedFrequency, lastMost}
-
--- above -2^28 and below 2^28
-phase-bounds : (z : ℤ) → betweenZ (negsuc 268435454) (pos 268435455) z ≡ phaseRange z
-phase-bounds (pos n) = sym (leb·suc-suc n 268435455)
-phase-bounds (negsuc k) = ap (λ (b : Bool). b && true) (sym (leb·suc-suc k 268435454))
+use Rattle.state.specs.Device.{kindRange, deviceOf}
+use Rattle.state.specs.Units.{phaseUnitsPerMicro}
+use Rattle.state.specs.State.{lastSecond, longestInterval, zeroUnlessFlag, strictlyWithin, phaseRange, offsetRange, frequencyRange, partsRange}
+use Rattle.state.proofs.DeviceLaws.{laws}
+use Rattle.record.specs.Layout.{holdsKind, holdsParts, lastRange}
+use Rattle.record.specs.Inner.{upTo, betweenZ, mappedPhase, mappedOffset, mappedFrequency, mappedParts, lastMost}
 
 -- two tests that pass together are one
 same-test : (a b c d : ℕ) → (a ≤ b → c ≤ d) → (c ≤ d → a ≤ b) → leb a b ≡ leb c d
@@ -49,8 +46,22 @@ balanced k n =
     simp t (same-test n (2 * suc k) (n / 2) k (λ h. omega arith) (λ h. omega arith) ∙ sym (and-one (leb (n / 2) k))))
     (either (eqb (n % 2) 0))
 
+-- above -(k + 2) and below k + 2
+strict-bounds : (k : ℕ) (z : ℤ) → betweenZ (negsuc k) (pos (suc k)) z ≡ strictlyWithin (suc (suc k)) z
+strict-bounds k (pos n) = sym (leb·suc-suc n (suc k))
+strict-bounds k (negsuc j) = ap (λ (b : Bool). b && true) (sym (leb·suc-suc j k))
+
+-- .. and so one whose ends, -d and d, are not in it
+strict-test : (d n : ℕ) → 2 ≤ d → upTo (2 * (d - 1)) n ≡ mappedRange (strictlyWithin d) n
+strict-test zero n h = absurd (omega arith)
+strict-test (suc zero) n h = absurd (omega arith)
+strict-test (suc (suc k)) n h = let e : suc (suc k) - 1 ≡ suc k = omega arith in rw e (balanced k n ∙ strict-bounds k (unmapped n))
+
 pub phase-test : (n : ℕ) → upTo mappedPhase n ≡ mappedRange phaseRange n
-phase-test n = balanced 268435454 n ∙ phase-bounds (unmapped n)
+phase-test n = strict-test phaseUnitsPerMicro n (omega arith)
+
+pub parts-test : (kind n : ℕ) → upTo (mappedParts kind) n ≡ mappedRange (partsRange (deviceOf kind)) n
+parts-test kind n = strict-test (deviceOf kind .divisor) n (omega (arith, laws kind))
 
 pub offset-test : (n : ℕ) → upTo mappedOffset n ≡ mappedRange offsetRange n
 offset-test = balanced 2097135615
@@ -91,9 +102,22 @@ within : (here : Bool) (range : ℕ → Bool) (n : ℕ) → range 0 ≡ true →
 within true range n z e = e
 within false range n z e = ap range (eqb-true n 0 e) ∙ z
 
+-- .. and 0 suits every such place
+pub zero-suits : (here : Bool) (range : ℕ → Bool) → range 0 ≡ true → suits here range 0 ≡ true
+zero-suits true range z = z
+zero-suits false range z = refl
+
 -- a kind that a record of the version can hold is one
 pub kind-within : (version kind : ℕ) → suits (holdsKind version) kindRange kind ≡ true → kindRange kind ≡ true
 kind-within version kind = within (holdsKind version) kindRange kind refl
+
+-- 0 parts of a phase unit are in range, and so are those that a record of the version can hold
+pub parts-zero : (kind : ℕ) → mappedRange (partsRange (deviceOf kind)) 0 ≡ true
+parts-zero kind = sym (parts-test kind 0) ∙ le-leb 0 (mappedParts kind) (omega arith)
+
+pub parts-within : (version kind n : ℕ) → suits (holdsParts version) (mappedRange (partsRange (deviceOf kind))) n ≡ true
+    → mappedRange (partsRange (deviceOf kind)) n ≡ true
+parts-within version kind n = within (holdsParts version) (mappedRange (partsRange (deviceOf kind))) n (parts-zero kind)
 
 -- a field of one byte
 pub byte : {n : ℕ} (most : ℕ) → most < 256 → upTo most n ≡ true → n < 256

@@ -3,39 +3,39 @@
 use mathlib.Core.Path.{_≡_, refl, sym, _∙_, ap}
 use mathlib.Core.Bool.{Bool, true, false, cond, _&&_, false≢true, and-assoc, and-false}
 use mathlib.Core.Bool.{and-true as and-one}
-use mathlib.Core.List.{List, _∷_, _++_, append-nil}
+use mathlib.Core.List.{List, [], _∷_, _++_, append-nil, append-assoc}
 use mathlib.Core.Logic.{_⊎_, inl, inr, ⊎-elim}
 use Prim.Native.Nat.{ℕ, suc, _+_, _*_, _-_, _^_, _<_, _≤_}
 use native.Mathlib.Omega.{arith}
 use lib.Dec.{leb, ltb, eqb, lit<}
-use lib.IntN.{pos}
+use lib.IntN.{ℤ, pos}
 use lib.ListN.{length, drop}
 use lib.Seq.{take-append-seam, drop-append-seam}
 use borrow.Author.Tests.{leb-true, le-leb, ltb-true, ltb-false, eqb-true}
 use Rattle.integers.proofs.Ranges.{and-true, true-and}
 use Rattle.number.specs.Form.{bytesOf, bytesFrom, bytesOfAll}
 use Rattle.number.specs.Layout.{suits, mappedRange, written, Outcome, got, failed, readFrom}
-use Rattle.number.specs.Mapping.{mapped}
+use Rattle.number.specs.Mapping.{mapped, unmapped}
 use Rattle.number.proofs.Lists.{either}
 use Rattle.number.proofs.Chain.{Ahead}
 use Rattle.number.proofs.Layouts.{Choice, picked, stands, chosen, allows, joined, allows-joined, Sized, sized, sized-end, choose, choose-picked, picked-allowed, most, no-longer, read-back, read-more, taken, Known, known, layout-exactly-when}
 use Rattle.number.proofs.Sizes.{bytes-last}
 use Rattle.number.proofs.Mapping.{unmapped-mapped, mapped-unmapped}
-use Rattle.state.specs.Units.{micros, offsetUnits, phaseUnits, frequencyUnits, offsetUnitsPerMicro, phaseUnitsPerMicro}
+use Rattle.state.specs.Units.{micros, offsetUnits, phaseUnits, phaseParts, frequencyUnits, offsetUnitsPerMicro, phaseUnitsPerMicro}
 use Rattle.state.specs.Device.{recorder256, kindRange, kind256, kind1024, deviceOf}
-use Rattle.state.specs.State.{inRange, freshClock, secondRange, adjustmentRange, flagRange, intervalRange, zeroUnlessFlag, lastSecond, longestInterval, lastMicro, greatestOffset, greatestFrequency, greatestConstant, greatestError, statusBad}
+use Rattle.state.specs.State.{inRange, freshClock, secondRange, adjustmentRange, flagRange, intervalRange, zeroUnlessFlag, partsRange, lastSecond, longestInterval, lastMicro, greatestOffset, greatestFrequency, greatestConstant, greatestError, statusBad}
 use Rattle.state.specs.declared.state.Clock.{Clock}
-use Rattle.state.proofs.DeviceLaws.{fits-least, fits-most}
+use Rattle.state.proofs.DeviceLaws.{laws, fits-least, fits-most}
 use Rattle.state.proofs.Ok.{ok}
-use Rattle.record.specs.Layout.{newest, knownVersion, holdsKind, reftimeRange, countRange, lastRange, keptUpdate, recordLayout, placesIn, numbersIn, recordIn, recordOf}
+use Rattle.record.specs.Layout.{newest, knownVersion, holdsKind, holdsParts, reftimeRange, countRange, lastRange, keptUpdate, recordLayout, placesIn, numbersIn, recordIn, recordOf}
 use Rattle.record.specs.Reading.{restored, readingOf, accepted, refusedWith}
 use Rattle.record.specs.Saving.{savingOf, bufferAfter}
-use Rattle.record.specs.Inner.{mappedPhase, mappedOffset, mappedFrequency}
-use Rattle.record.specs.Properties.{Says, ReadsBack, NothingFollows, WritesNewest, Bytes, versionOf, Whole, OneForm, OneNewest, Refused, RefusedIsFresh, ExactlyWhen, LongestIs, Longest, freshRecord256, freshRecord1024, freshRecord2, freshRecord1, FreshRecords, Version1, Version2, SavedIsKept}
+use Rattle.record.specs.Inner.{mappedPhase, mappedOffset, mappedFrequency, mappedParts}
+use Rattle.record.specs.Properties.{suitsParts, Says, ReadsBack, NothingFollows, WritesNewest, Bytes, versionOf, Whole, OneForm, OneNewest, Refused, RefusedIsFresh, ExactlyWhen, LongestIs, Longest, freshFields256, freshFields1024, FreshRecords, WithoutParts, noParts, Version1, Version2, OfVersion3, Version3, SavedIsKept}
 use Rattle.record.specs.declared.groups.Update.{Update}
 use Rattle.record.specs.declared.restore.Restored.{Restored}
 use Rattle.record.specs.declared.save.Saved.{Saved}
-use Rattle.record.proofs.Ranges.{phase-test, offset-test, frequency-test, between-small, kind-within}
+use Rattle.record.proofs.Ranges.{phase-test, offset-test, frequency-test, parts-test, between-small, zero-suits, kind-within, parts-zero, parts-within}
 use Rattle.record.proofs.SavingLaws.{out-of-range, too-short, stored}
 
 -- ---- how long a record is
@@ -49,6 +49,9 @@ version-small n e = omega (arith, leb-true n newest (and-true (leb 1 n) (leb n n
 
 adjustment-small : (kind n : ℕ) → mappedRange (adjustmentRange (deviceOf kind)) n ≡ true → n < 128 ^ 5
 adjustment-small kind n e = omega (arith, between-small n (fits-least kind) (fits-most kind) e)
+
+parts-small : (kind n : ℕ) → mappedRange (partsRange (deviceOf kind)) n ≡ true → n < 128
+parts-small kind n e = omega (arith, laws kind, leb-true n (mappedParts kind) (parts-test kind n ∙ e))
 
 -- what follows the flag of the earlier update, in five bytes or in two: behind the first there are so many
 abbrev lastMore : ℕ → ℕ
@@ -85,7 +88,9 @@ sizes =
     sized 3 _ _ _ (lit< tt) (below 3 _ (lit< tt)) (λ maxerror.
     sized 3 _ _ _ (lit< tt) (below 3 _ (lit< tt)) (λ esterror.
     sized 0 _ _ _ (lit< tt) (below 0 _ (lit< tt)) (λ status.
-    sized-end _))))))))))))))
+    sized 0 _ _ _ (lit< tt) (parts-small kind) (λ remainder.
+    sized 0 _ _ _ (lit< tt) (parts-small kind) (λ leftover.
+    sized-end _))))))))))))))))
 
 -- ---- a record that says a clock in range is one whose numbers the layout allows
 
@@ -106,14 +111,14 @@ kept-sound version flag last flagged ranged =
     simp t (update-apart flag last ∙ true-and flagged w))
     (either (eqb version 1))
 
+-- a test without which another fails passes with it
+tested : (b : Bool) {all : Bool} → (b ≡ false → all ≡ false) → all ≡ true → b ≡ true
+tested true f e = refl
+tested false f e = absurd (false≢true (sym (f refl) ∙ e))
+
 update-sound : (c : Clock) → inRange c ≡ true → updateRange (c .updated) (c .interval) ≡ true
 unfolding inRange
-update-sound c e =
-    ⊎-elim (λ t. t)
-    (λ (t : updateRange (c .updated) (c .interval) ≡ false).
-    let no : inRange c ≡ false = simp (t, and-false) in
-    absurd (false≢true (sym no ∙ e)))
-    (either (updateRange (c .updated) (c .interval)))
+update-sound c = tested (updateRange (c .updated) (c .interval)) (λ t. simp (t, and-false))
 
 update-parts : (c : Clock) → inRange c ≡ true → (flagRange (c .updated) ≡ true) × (countRange (c .updated) (c .interval) ≡ true)
 update-parts c e = and-true (flagRange (c .updated)) (countRange (c .updated) (c .interval)) (sym (update-apart (c .updated) (c .interval)) ∙ update-sound c e)
@@ -121,17 +126,34 @@ update-parts c e = and-true (flagRange (c .updated)) (countRange (c .updated) (c
 kind-sound : (c : Clock) → inRange c ≡ true → kindRange (c .kind) ≡ true
 kind-sound c e = le-leb _ _ (ok c e .kind)
 
+parts-sound : (c : Clock) → inRange c ≡ true → (partsRange (deviceOf (c .kind)) (c .remainder .0) ≡ true) × (partsRange (deviceOf (c .kind)) (c .leftover .0) ≡ true)
+unfolding inRange
+parts-sound c e = (
+  tested (partsRange (deviceOf (c .kind)) (c .remainder .0)) (λ t. simp (t, and-false)) e,
+  tested (partsRange (deviceOf (c .kind)) (c .leftover .0)) (λ t. simp (t, and-false)) e,
+)
+
+-- both parts are what a record of the version can hold
+abbrev PartsSuit : ℕ → Clock → Type 0
+PartsSuit version c = (suitsParts version (c .kind) (c .remainder .0) ≡ true) × (suitsParts version (c .kind) (c .leftover .0) ≡ true)
+
+-- .. and are then in their range
+held-parts : (version kind : ℕ) (z : ℤ) → suitsParts version kind z ≡ true → partsRange (deviceOf kind) z ≡ true
+held-parts version kind z e = rw unmapped-mapped at (parts-within version kind (mapped z) e)
+
 allowed : (version : ℕ) (c : Clock) (flag last : ℕ) → knownVersion version ≡ true → suits (holdsKind version) kindRange (c .kind) ≡ true → flagRange flag ≡ true → lastRange version flag last ≡ true → updateRange (c .updated) (c .interval) ≡ true
-    → allows recordLayout (placesIn version c flag last) ≡ inRange c
+    → PartsSuit version c → allows recordLayout (placesIn version c flag last) ≡ inRange c
 unfolding joined recordLayout placesIn inRange
-allowed version c flag last known kind flagged ranged update =
+allowed version c flag last known kind flagged ranged update parts =
     allows-joined true recordLayout (placesIn version c flag last)
-    ∙ simp (unmapped-mapped, known, kind, flagged, ranged, update, and-one) (simp (kind-within version (c .kind) kind))
+    ∙ simp (parts .0, parts .1)
+    (simp (unmapped-mapped, known, kind, flagged, ranged, update, held-parts version (c .kind) (c .remainder .0) (parts .0), held-parts version (c .kind) (c .leftover .0) (parts .1), and-one)
+    (simp (kind-within version (c .kind) kind)))
 
 -- what a record says, as a choice of numbers, which stands for the clock
 module _ {version : ℕ} {c : Clock} {flag last : ℕ} (w : Says version c flag last) where
   says-allowed : allows recordLayout (placesIn version c flag last) ≡ true
-  says-allowed = allowed version c flag last (w .known) (w .kind) (w .flagged) (w .ranged) (update-sound c (w .sound)) ∙ w .sound
+  says-allowed = allowed version c flag last (w .known) (w .kind) (w .flagged) (w .ranged) (update-sound c (w .sound)) (w .remainder, w .leftover) ∙ w .sound
 
   unfoldable choice : Choice recordLayout
   choice = choose recordLayout sizes (placesIn version c flag last) says-allowed
@@ -174,13 +196,18 @@ module _ (k : Choice recordLayout) where
       let kind = k .more .fits in
       let flag = k .more .more .more .more .more .more .more .more .more in
       let update = kept-sound version-of flag-of last-of (flag .fits) (flag .more .fits) in
+      let parts = flag .more .more .more .more .more in
+      let remainder = rw (sym (mapped-unmapped (parts .n))) at (parts .fits) in
+      let leftover = rw (sym (mapped-unmapped (parts .more .n))) at (parts .more .fits) in
       record {
         known = known;
-        sound = sym (allowed version-of (stands recordLayout k) flag-of last-of known kind (flag .fits) (flag .more .fits) update) ∙ ap (allows recordLayout) (sym places-picked) ∙ picked-allowed recordLayout k;
+        sound = sym (allowed version-of (stands recordLayout k) flag-of last-of known kind (flag .fits) (flag .more .fits) update (remainder, leftover)) ∙ ap (allows recordLayout) (sym places-picked) ∙ picked-allowed recordLayout k;
         kind = kind;
         flagged = flag .fits;
         ranged = flag .more .fits;
         update = refl;
+        remainder = remainder;
+        leftover = leftover;
       }
 
 -- ---- what was written is read
@@ -193,10 +220,17 @@ pub nothing-follows : NothingFollows
 unfolding readingOf
 nothing-follows version c flag last rest w h = ap restored (read-more recordLayout (choice w) h (ahead w refl))
 
+-- from version 2 on a record holds the clock's own update
+says-own : (version : ℕ) (c : Clock) → knownVersion version ≡ true → eqb version 1 ≡ false → inRange c ≡ true → suits (holdsKind version) kindRange (c .kind) ≡ true
+    → PartsSuit version c → Says version c (c .updated) (c .interval)
+says-own version c known later sound kind parts =
+    let w = update-parts c sound in
+    record { known = known; sound = sound; kind = kind; flagged = w .0; ranged = simp later (w .1); update = simp later; remainder = parts .0; leftover = parts .1 }
+
 pub writes-newest : WritesNewest
 writes-newest c e =
-    let w = update-parts c e in
-    record { known = refl; sound = e; kind = kind-sound c e; flagged = w .0; ranged = w .1; update = refl }
+    let w = parts-sound c e in
+    says-own newest c refl refl e (kind-sound c e) (rw unmapped-mapped (w .0), rw unmapped-mapped (w .1))
 
 -- ---- what is read was written, and what a refusal is
 
@@ -226,43 +260,89 @@ pub one-form : OneForm
 unfolding readingOf
 one-form s b z = whole-found s b (readFrom recordLayout s 0) refl z
 
--- a record of the newest version is the one that is written of its clock
-newest-written : {c : Clock} {flag last : ℕ} → Says newest c flag last → recordIn newest c flag last ≡ recordOf c
-newest-written {c} w = ap (λ (u : Update). recordIn newest c (u .updated) (u .interval)) (sym (w .update))
+-- what was read of a version from 2 on
+record Own (version : ℕ) (s : List ℕ) (c : Clock) : Type 0 where
+  says : Says version c (c .updated) (c .interval)
+  written : s ≡ recordIn version c (c .updated) (c .interval)
+
+read-own : (version : ℕ) → eqb version 1 ≡ false → (s : List ℕ) → Bytes s → readingOf s .refusal ≡ 0 → versionOf s ≡ version → Own version s (readingOf s .clock)
+read-own version later s b z v =
+    let w = one-form s b z in
+    let says : Says version (readingOf s .clock) (w .flag) (w .last) = rw v at (w .says) in
+    let update : _≡_ {A = Update} (record { updated = readingOf s .clock .updated; interval = readingOf s .clock .interval }) (record { updated = w .flag; interval = w .last }) = simp later at (says .update) in
+    record {
+      says = rw (ap (λ (u : Update). u .updated) update, ap (λ (u : Update). u .interval) update) says;
+      written = rw v at (w .written) ∙ ap (λ (u : Update). recordIn version (readingOf s .clock) (u .updated) (u .interval)) (sym update);
+    }
 
 pub one-newest : OneNewest
-one-newest s b z v =
-    let w = one-form s b z in
-    rw v at (w .written) ∙ newest-written (rw v at (w .says))
+one-newest s b z v = read-own newest refl s b z v .written
 
--- a record of version 2 has the numbers of the newest, but for the first two
-version-2-after : (c : Clock) → c .kind ≡ kind256 → recordOf c ≡ newest ∷ kind256 ∷ drop 1 (recordIn 2 c (c .updated) (c .interval))
+-- ---- the older versions
+
+all-append : (xs ys : List ℕ) → bytesOfAll (xs ++ ys) ≡ bytesOfAll xs ++ bytesOfAll ys
+unfolding bytesOfAll
+all-append [] ys = refl
+all-append (n ∷ ns) ys = ap (λ (x : List ℕ). bytesOf n ++ x) (all-append ns ys) ∙ sym (append-assoc (bytesOf n) (bytesOfAll ns) (bytesOfAll ys))
+
+-- the numbers of version 3 are those of the newest, but for the first and the last two
+numbers-after-3 : (c : Clock) (flag last : ℕ) → WithoutParts c → numbersIn newest c flag last ≡ newest ∷ drop 1 (numbersIn 3 c flag last) ++ noParts
+unfolding numbersIn written recordLayout placesIn mapped
+numbers-after-3 c flag last none = rw (none .0, none .1)
+
+after-3 : (c : Clock) (flag last : ℕ) → WithoutParts c → recordIn newest c flag last ≡ newest ∷ drop 1 (recordIn 3 c flag last) ++ noParts
 unfolding recordIn numbersIn written recordLayout placesIn bytesOfAll bytesOf bytesFrom
-version-2-after c e = rw e
+after-3 c flag last none = ap bytesOfAll (numbers-after-3 c flag last none) ∙ all-append (newest ∷ drop 1 (numbersIn 3 c flag last)) noParts
 
--- one of an older version is of kind 0
+-- those of version 2 have no kind besides
+after-2 : (c : Clock) (flag last : ℕ) → c .kind ≡ kind256 → WithoutParts c → recordIn newest c flag last ≡ newest ∷ kind256 ∷ drop 1 (recordIn 2 c flag last) ++ noParts
+unfolding recordIn numbersIn written recordLayout placesIn bytesOfAll bytesOf bytesFrom
+after-2 c flag last e none = after-3 c flag last none ∙ rw e
+
+-- a record that holds no kind is of kind 0, and one that holds no parts has none
 older-kind : {version : ℕ} {c : Clock} {flag last : ℕ} → holdsKind version ≡ false → Says version c flag last → c .kind ≡ kind256
 older-kind {c = c} old w = let z : eqb (c .kind) 0 ≡ true = simp old at (w .kind) in eqb-true (c .kind) 0 z
+
+no-part : (version kind : ℕ) (z : ℤ) → holdsParts version ≡ false → suitsParts version kind z ≡ true → z ≡ pos 0
+unfolding unmapped
+no-part version kind z old e = let n : eqb (mapped z) 0 ≡ true = simp old at e in sym (unmapped-mapped z) ∙ ap unmapped (eqb-true (mapped z) 0 n)
+
+older-parts : {version : ℕ} {c : Clock} {flag last : ℕ} → holdsParts version ≡ false → Says version c flag last → WithoutParts c
+older-parts {version} {c} old w = (no-part version (c .kind) _ old (w .remainder), no-part version (c .kind) _ old (w .leftover))
+
+-- no parts are what every version can hold
+parts-none : (version : ℕ) (c : Clock) → WithoutParts c → PartsSuit version c
+unfolding mapped
+parts-none version c none =
+    let z = zero-suits (holdsParts version) (mappedRange (partsRange (deviceOf (c .kind)))) (parts-zero (c .kind)) in
+    (rw (none .0) z, rw (none .1) z)
+
+pub version-3 : Version3
+version-3 =
+    record {
+      only =
+          λ s b z v.
+          let w = read-own 3 refl s b z v in
+          record { sound = w .says .sound; parts = older-parts refl (w .says); written = w .written };
+      always =
+          λ s c o.
+          ap readingOf (o .written)
+          ∙ reads-back 3 c _ _ (says-own 3 c refl refl (o .sound) (kind-sound c (o .sound)) (parts-none 3 c (o .parts)));
+      after = λ s c o. after-3 c _ _ (o .parts) ∙ ap (λ (x : List ℕ). newest ∷ drop 1 x ++ noParts) (sym (o .written));
+    }
 
 pub version-2 : Version2
 version-2 =
     record {
       only =
           λ s b z v.
-          let w = one-form s b z in
-          let says = rw v at (w .says) in
-          record {
-            sound = says .sound;
-            kind = older-kind refl says;
-            written = rw v at (w .written) ∙ ap (λ (u : Update). recordIn 2 (readingOf s .clock) (u .updated) (u .interval)) (sym (says .update));
-          };
+          let w = read-own 2 refl s b z v in
+          record { sound = w .says .sound; kind = older-kind refl (w .says); parts = older-parts refl (w .says); written = w .written };
       always =
           λ s c o.
-          let w = update-parts c (o .sound) in
           ap readingOf (o .written)
-          ∙ reads-back 2 c (c .updated) (c .interval)
-          (record { known = refl; sound = o .sound; kind = rw (o .kind); flagged = w .0; ranged = w .1; update = refl });
-      after = λ s c o. version-2-after c (o .kind) ∙ ap (λ (x : List ℕ). newest ∷ kind256 ∷ drop 1 x) (sym (o .written));
+          ∙ reads-back 2 c _ _ (says-own 2 c refl refl (o .sound) (rw (o .kind)) (parts-none 2 c (o .parts)));
+      after = λ s c o. after-2 c _ _ (o .kind) (o .parts) ∙ ap (λ (x : List ℕ). newest ∷ kind256 ∷ drop 1 x ++ noParts) (sym (o .written));
     }
 
 pub version-1 : Version1
@@ -281,14 +361,26 @@ version-1 =
             sound = says .sound;
             kind = older-kind refl says;
             none = (ap (λ (u : Update). u .updated) update, ap (λ (u : Update). u .interval) update);
+            parts = older-parts refl says;
             written = rw v at (w .written);
           };
       always =
           λ s c o.
           ap readingOf (o .written)
           ∙ reads-back 1 c (o .flag) (o .second)
-          (record { known = refl; sound = o .sound; kind = rw (o .kind); flagged = o .flagged; ranged = o .ranged; update = rw (o .none .0, o .none .1) });
-      after = λ s c o. rw (o .none .0, o .none .1);
+          (record {
+            known = refl;
+            sound = o .sound;
+            kind = rw (o .kind);
+            flagged = o .flagged;
+            ranged = o .ranged;
+            update = rw (o .none .0, o .none .1);
+            remainder = parts-none 1 c (o .parts) .0;
+            leftover = parts-none 1 c (o .parts) .1;
+          });
+      after =
+          λ s c o.
+          ap (λ (n : ℕ). recordIn newest c n (c .interval)) (o .none .0) ∙ ap (λ (n : ℕ). recordIn newest c 0 n) (o .none .1) ∙ after-2 c 0 0 (o .kind) (o .parts);
     }
 
 fair-found : (s : List ℕ) (x : Outcome Clock) → readFrom recordLayout s 0 ≡ x → (restored x .refusal ≡ 0) ⊎ Refused (restored x)
@@ -311,7 +403,8 @@ exactly-when s r some =
 
 -- ---- the longest record, and the fresh clock's
 
--- each field of the first device's clock at its greatest, but for the earlier update
+-- each field of the first device's clock at its greatest, but for the earlier update, and for remainder and leftover, which have one byte
+-- whatever they are
 abbrev greatest : Update → Clock
 greatest u =
     record {
@@ -328,11 +421,13 @@ greatest u =
       maxerror = micros greatestError;
       esterror = micros greatestError;
       status = statusBad;
+      remainder = phaseParts (pos 0);
+      leftover = phaseParts (pos 0);
     }
 
--- 40 bytes, the kind's where it is held, and those of what follows the flag of the earlier update
+-- 40 bytes, those of kind, remainder and leftover where they are held, and those of what follows the flag of the earlier update
 abbrev longestIn : ℕ → ℕ
-longestIn version = 40 + cond (holdsKind version) 1 0 + suc (lastMore version)
+longestIn version = 40 + cond (holdsKind version) 1 0 + suc (lastMore version) + 2 * cond (holdsParts version) 1 0
 
 most-bytes : {version : ℕ} {c : Clock} {flag last : ℕ} (w : Says version c flag last) → most recordLayout sizes (choice w) ≡ longestIn version
 unfolding most sizes sized sized-end Sized choice choose Choice recordLayout placesIn
@@ -342,48 +437,62 @@ no-record-longer : {version : ℕ} {c : Clock} {flag last : ℕ} → Says versio
 unfolding recordIn
 no-record-longer w = rw (most-bytes w, choice-numbers w) at (no-longer recordLayout sizes (choice w))
 
-longest-of : (version last : ℕ) → Says version (greatest (keptUpdate version 1 last)) 1 last
+longest-of : (version last : ℕ) → knownVersion version ≡ true → inRange (greatest (keptUpdate version 1 last)) ≡ true → lastRange version 1 last ≡ true
     → length (recordIn version (greatest (keptUpdate version 1 last)) 1 last) ≡ longestIn version → LongestIs version (longestIn version)
-longest-of version last w e = record { none = λ c flag last w. no-record-longer w; one = _; flag = 1; last = last; says = w; long = e }
+longest-of version last known sound ranged long =
+    let parts = parts-none version (greatest (keptUpdate version 1 last)) (refl, refl) in
+    record {
+      none = λ c flag last w. no-record-longer w;
+      one = greatest (keptUpdate version 1 last);
+      flag = 1;
+      last = last;
+      says =
+          record {
+            known = known;
+            sound = sound;
+            kind = zero-suits (holdsKind version) kindRange refl;
+            flagged = refl;
+            ranged = ranged;
+            update = refl;
+            remainder = parts .0;
+            leftover = parts .1;
+          };
+      long = long;
+    }
 
 pub longest : Longest
 unfolding inRange deviceOf recordIn numbersIn written recordLayout placesIn bytesOfAll bytesOf bytesFrom mapped
 longest =
     record {
-      version1 = longest-of 1 lastSecond (record { known = refl; sound = refl; kind = refl; flagged = refl; ranged = refl; update = refl }) refl;
-      version2 = longest-of 2 longestInterval (record { known = refl; sound = refl; kind = refl; flagged = refl; ranged = refl; update = refl }) refl;
-      version3 = longest-of 3 longestInterval (record { known = refl; sound = refl; kind = refl; flagged = refl; ranged = refl; update = refl }) refl;
+      version1 = longest-of 1 lastSecond refl refl refl refl;
+      version2 = longest-of 2 longestInterval refl refl refl refl;
+      version3 = longest-of 3 longestInterval refl refl refl refl;
+      version4 = longest-of 4 longestInterval refl refl refl refl;
     }
 
-fresh-written-256 : recordOf (freshClock kind256) ≡ freshRecord256
+fresh-written : (0x03 ∷ 0x00 ∷ freshFields256 ≡ recordIn 3 (freshClock kind256) 0 0) × (0x03 ∷ 0x01 ∷ freshFields1024 ≡ recordIn 3 (freshClock kind1024) 0 0)
+    × (0x02 ∷ freshFields256 ≡ recordIn 2 (freshClock kind256) 0 0) × (0x01 ∷ freshFields256 ≡ recordIn 1 (freshClock kind256) 0 0)
 unfolding recordIn numbersIn written recordLayout placesIn bytesOfAll bytesOf bytesFrom mapped deviceOf
-fresh-written-256 = refl
+fresh-written = (refl, refl, refl, refl)
 
-fresh-written-1024 : recordOf (freshClock kind1024) ≡ freshRecord1024
-unfolding recordIn numbersIn written recordLayout placesIn bytesOfAll bytesOf bytesFrom mapped deviceOf
-fresh-written-1024 = refl
-
-fresh-written-2 : freshRecord2 ≡ recordIn 2 (freshClock kind256) 0 0
-unfolding recordIn numbersIn written recordLayout placesIn bytesOfAll bytesOf bytesFrom mapped deviceOf
-fresh-written-2 = refl
-
-fresh-written-1 : freshRecord1 ≡ recordIn 1 (freshClock kind256) 0 0
-unfolding recordIn numbersIn written recordLayout placesIn bytesOfAll bytesOf bytesFrom mapped deviceOf
-fresh-written-1 = refl
-
-fresh-sound : inRange (freshClock kind256) ≡ true
+fresh-sound : (inRange (freshClock kind256) ≡ true) × (inRange (freshClock kind1024) ≡ true)
 unfolding inRange deviceOf
-fresh-sound = refl
+fresh-sound = (refl, refl)
 
 pub fresh-records : FreshRecords
 fresh-records =
+    let w = fresh-written in
+    let of256 : OfVersion3 (0x03 ∷ 0x00 ∷ freshFields256) (freshClock kind256) = record { sound = fresh-sound .0; parts = (refl, refl); written = w .0 } in
+    let of1024 : OfVersion3 (0x03 ∷ 0x01 ∷ freshFields1024) (freshClock kind1024) = record { sound = fresh-sound .1; parts = (refl, refl); written = w .1 } in
     record {
-      written256 = fresh-written-256;
-      written1024 = fresh-written-1024;
-      read2 = version-2 .always freshRecord2 (freshClock kind256) (record { sound = fresh-sound; kind = refl; written = fresh-written-2 });
+      written256 = version-3 .after _ _ of256;
+      written1024 = version-3 .after _ _ of1024;
+      read3of256 = version-3 .always _ _ of256;
+      read3of1024 = version-3 .always _ _ of1024;
+      read2 = version-2 .always _ (freshClock kind256) (record { sound = fresh-sound .0; kind = refl; parts = (refl, refl); written = w .2 });
       read1 =
-          version-1 .always freshRecord1 (freshClock kind256)
-          (record { flag = 0; second = 0; flagged = refl; ranged = refl; sound = fresh-sound; kind = refl; none = (refl, refl); written = fresh-written-1 });
+          version-1 .always _ (freshClock kind256)
+          (record { flag = 0; second = 0; flagged = refl; ranged = refl; sound = fresh-sound .0; kind = refl; none = (refl, refl); parts = (refl, refl); written = w .3 });
     }
 
 -- ---- written and read back through a buffer

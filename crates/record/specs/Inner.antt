@@ -6,10 +6,11 @@ use lib.Dec.{leb, eqb}
 use lib.Signed.{leZ}
 use Rattle.number.specs.Layout.{Layout, whole}
 use Rattle.number.specs.Reading.{Found, number, refused}
+use Rattle.state.specs.Device.{deviceOf}
 use Rattle.state.specs.Units.{offsetUnitsPerMicro, phaseUnitsPerMicro}
 use Rattle.state.specs.State.{lastSecond, longestInterval, greatestOffset, greatestFrequency}
 use Rattle.state.specs.declared.state.Clock.{Clock}
-use Rattle.record.specs.Layout.{timeFields, loopFields, rateFields, updateFields, errorFields, clockOf}
+use Rattle.record.specs.Layout.{timeFields, loopFields, rateFields, updateFields, errorFields, partFields, clockOf}
 use Rattle.record.specs.declared.field.Field.{Field}
 use Rattle.record.specs.declared.field.Field.the-variants as F
 use Rattle.record.specs.declared.groups.Head.{Head}
@@ -17,6 +18,7 @@ use Rattle.record.specs.declared.groups.Time.{Time}
 use Rattle.record.specs.declared.groups.Loop.{Loop}
 use Rattle.record.specs.declared.groups.Rate.{Rate}
 use Rattle.record.specs.declared.groups.Update.{Update}
+use Rattle.record.specs.declared.groups.Errors.{Errors}
 
 -- what each case of a field reader's answer says
 abbrev pub toldField : Field → Found
@@ -41,14 +43,21 @@ mappedOffset = 2 * (greatestOffset * offsetUnitsPerMicro)
 abbrev pub mappedFrequency : ℕ
 mappedFrequency = 2 * greatestFrequency
 
+-- .. and that of a remainder or a leftover, for the kind of the record
+abbrev pub mappedParts : ℕ → ℕ
+mappedParts kind = 2 * (deviceOf kind .divisor - 1)
+
 -- the largest number behind the flag of an earlier update
 abbrev pub lastMost : ℕ → ℕ → ℕ
 lastMost version flag = cond (eqb flag 1) (cond (eqb version 1) lastSecond longestInterval) 0
 
 -- ---- a group of fields and those behind it, after the groups before it
 
+unfoldable pub fromParts : Head → Time → Loop → Rate → Update → Errors → Layout Clock
+fromParts h t l a u e = partFields h (λ p. whole (clockOf h t l a u e p))
+
 unfoldable pub fromErrors : Head → Time → Loop → Rate → Update → Layout Clock
-fromErrors h t l a u = errorFields (λ e. whole (clockOf h t l a u e))
+fromErrors h t l a u = errorFields (λ e. fromParts h t l a u e)
 
 unfoldable pub fromUpdate : Head → Time → Loop → Rate → Layout Clock
 fromUpdate h t l a = updateFields (h .version) (λ u. fromErrors h t l a u)

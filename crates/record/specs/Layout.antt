@@ -2,7 +2,8 @@
 -- numbers: version 1, then the table's fields in its order (earlier update is two)." "Phase, offset left, frequency and adjustment are
 -- first mapped". Document 02: "Record version 2 carries the count in the place of the second, 0..1,024 and 0 if the flag is 0; a version 1
 -- record is still read, as having no earlier update. Writers use the newest version"; "Version 3 records hold the kind right after the
--- version, older ones read as 0". All versions are one layout.
+-- version, older ones read as 0"; "Version 4 records hold remainder and leftover, mapped, after the status; older versions read with
+-- leftover 0 and the remainder 0 until the next rollover or setting". All versions are one layout.
 use mathlib.Core.Bool.{Bool, cond, _&&_}
 use mathlib.Core.List.{List, [], _∷_}
 use Prim.Native.Nat.{ℕ}
@@ -10,9 +11,9 @@ use lib.Dec.{leb, eqb}
 use Rattle.number.specs.Form.{bytesOfAll}
 use Rattle.number.specs.Layout.{Layout, place, field, whole, mappedRange, written}
 use Rattle.number.specs.Mapping.{mapped, unmapped}
-use Rattle.state.specs.Units.{micros, offsetUnits, phaseUnits, frequencyUnits}
+use Rattle.state.specs.Units.{micros, offsetUnits, phaseUnits, phaseParts, frequencyUnits}
 use Rattle.state.specs.Device.{kindRange, deviceOf}
-use Rattle.state.specs.State.{secondRange, microsRange, phaseRange, offsetRange, frequencyRange, adjustmentRange, constantRange, flagRange, intervalRange, zeroUnlessFlag, errorRange, statusRange}
+use Rattle.state.specs.State.{secondRange, microsRange, phaseRange, offsetRange, frequencyRange, adjustmentRange, constantRange, flagRange, intervalRange, zeroUnlessFlag, errorRange, statusRange, partsRange}
 use Rattle.state.specs.declared.state.Clock.{Clock}
 use Rattle.record.specs.declared.groups.Head.{Head}
 use Rattle.record.specs.declared.groups.Time.{Time}
@@ -20,10 +21,11 @@ use Rattle.record.specs.declared.groups.Loop.{Loop}
 use Rattle.record.specs.declared.groups.Rate.{Rate}
 use Rattle.record.specs.declared.groups.Update.{Update}
 use Rattle.record.specs.declared.groups.Errors.{Errors}
+use Rattle.record.specs.declared.groups.Parts.{Parts}
 
 -- the version that is written
 abbrev pub newest : ℕ
-newest = 3
+newest = 4
 
 -- the versions that are read: any other is unknown
 abbrev pub knownVersion : ℕ → Bool
@@ -32,6 +34,10 @@ knownVersion n = leb 1 n && leb n newest
 -- "Version 3 records hold the kind right after the version"
 abbrev pub holdsKind : ℕ → Bool
 holdsKind version = leb 3 version
+
+-- "Version 4 records hold remainder and leftover"
+abbrev pub holdsParts : ℕ → Bool
+holdsParts version = leb 4 version
 
 -- ---- the fields, by groups of two or three: what has been read of each, and what follows it
 
@@ -95,9 +101,16 @@ errorFields rest =
     field statusRange (λ status.
     rest (record { maxerror = maxerror; esterror = esterror; status = status }))))
 
+-- remainder, leftover: in the range of the record's own kind, and 0 where they are not held
+abbrev pub partFields : Head → (Parts → Layout Clock) → Layout Clock
+partFields h rest =
+    place (holdsParts (h .version)) (mappedRange (partsRange (deviceOf (h .kind)))) (λ remainder.
+    place (holdsParts (h .version)) (mappedRange (partsRange (deviceOf (h .kind)))) (λ leftover.
+    rest (record { remainder = remainder; leftover = leftover })))
+
 -- the clock that the numbers stand for
-abbrev pub clockOf : Head → Time → Loop → Rate → Update → Errors → Clock
-clockOf h t l a u e =
+abbrev pub clockOf : Head → Time → Loop → Rate → Update → Errors → Parts → Clock
+clockOf h t l a u e p =
     record {
       kind = h .kind;
       seconds = t .seconds;
@@ -112,9 +125,11 @@ clockOf h t l a u e =
       maxerror = micros (e .maxerror);
       esterror = micros (e .esterror);
       status = e .status;
+      remainder = phaseParts (unmapped (p .remainder));
+      leftover = phaseParts (unmapped (p .leftover));
     }
 
--- version and kind, "then the table's fields in its order"
+-- version and kind, "then the table's fields in its order", remainder and leftover
 unfoldable pub recordLayout : Layout Clock
 recordLayout =
     headFields (λ h.
@@ -123,7 +138,8 @@ recordLayout =
     rateFields (h .kind) (λ a.
     updateFields (h .version) (λ u.
     errorFields (λ e.
-    whole (clockOf h t l a u e)))))))
+    partFields h (λ p.
+    whole (clockOf h t l a u e p))))))))
 
 -- ---- the numbers of a record
 
@@ -144,6 +160,8 @@ placesIn version c flag last =
     ∷ c .maxerror .0
     ∷ c .esterror .0
     ∷ c .status
+    ∷ mapped (c .remainder .0)
+    ∷ mapped (c .leftover .0)
     ∷ []
 
 -- of a version: those at the places that it has

@@ -1,24 +1,30 @@
 -- What holds of all records: the statements that the crate proves of the definitions (in its proofs/Records.antt), for whoever wants to
 -- know what the field-by-field definitions come to.
 use mathlib.Core.Path.{_≡_}
-use mathlib.Core.Bool.{true}
+use mathlib.Core.Bool.{Bool, true}
 use mathlib.Core.List.{List, [], _∷_, _++_}
 use mathlib.Core.Logic.{_⊎_}
 use Prim.Native.Nat.{ℕ, _<_, _≤_}
+use lib.IntN.{ℤ, pos}
 use lib.ListN.{length, getD, take, drop}
-use Rattle.number.specs.Layout.{suits}
+use Rattle.number.specs.Layout.{suits, mappedRange}
+use Rattle.number.specs.Mapping.{mapped}
 use Rattle.number.specs.Stopping.{Stops}
-use Rattle.state.specs.Device.{kindRange, kind256, kind1024}
-use Rattle.state.specs.State.{inRange, freshClock, flagRange}
+use Rattle.state.specs.Device.{kindRange, kind256, kind1024, deviceOf}
+use Rattle.state.specs.State.{inRange, freshClock, flagRange, partsRange}
 use Rattle.state.specs.declared.state.Clock.{Clock}
-use Rattle.record.specs.Layout.{newest, knownVersion, holdsKind, reftimeRange, lastRange, keptUpdate, recordIn, recordOf, recordLayout}
+use Rattle.record.specs.Layout.{newest, knownVersion, holdsKind, holdsParts, reftimeRange, lastRange, keptUpdate, recordIn, recordOf, recordLayout}
 use Rattle.record.specs.Reading.{readingOf, accepted, refusedWith}
 use Rattle.record.specs.Saving.{savingOf, bufferAfter}
 use Rattle.record.specs.declared.restore.Restored.{Restored}
 
+-- a remainder or a leftover that a record of this version and kind can hold
+abbrev pub suitsParts : ℕ → ℕ → ℤ → Bool
+suitsParts version kind z = suits (holdsParts version) (mappedRange (partsRange (deviceOf kind))) (mapped z)
+
 -- A record of this version, with this flag and what follows it at the places of the earlier update, says the clock c: the clock is in
--- range, its kind is 0 where the version holds none, flag and last are in their ranges, and the clock's earlier update is what is kept of
--- them.
+-- range, its kind, remainder and leftover are 0 where the version holds none, flag and last are in their ranges, and the clock's earlier
+-- update is what is kept of them.
 pub record Says (version : ℕ) (c : Clock) (flag last : ℕ) : Type 0 where
   pub known : knownVersion version ≡ true
   pub sound : inRange c ≡ true
@@ -26,6 +32,8 @@ pub record Says (version : ℕ) (c : Clock) (flag last : ℕ) : Type 0 where
   pub flagged : flagRange flag ≡ true
   pub ranged : lastRange version flag last ≡ true
   pub update : record { updated = c .updated; interval = c .interval } ≡ keptUpdate version flag last
+  pub remainder : suitsParts version (c .kind) (c .remainder .0) ≡ true
+  pub leftover : suitsParts version (c .kind) (c .leftover .0) ≡ true
 
 -- ---- what was written is read
 
@@ -53,6 +61,13 @@ Bytes s = (i : ℕ) → getD s i 0 < 256
 abbrev pub versionOf : List ℕ → ℕ
 versionOf s = getD s 0 0
 
+-- "older versions read with leftover 0 and the remainder 0", and the bytes of both in the newest
+abbrev pub WithoutParts : Clock → Type 0
+WithoutParts c = (c .remainder .0 ≡ pos 0) × (c .leftover .0 ≡ pos 0)
+
+abbrev pub noParts : List ℕ
+noParts = 0x00 ∷ 0x00 ∷ []
+
 -- "one written form": accepted bytes are a record that says the clock which is read (that every such record is accepted is `ReadsBack`)
 pub record Whole (s : List ℕ) (c : Clock) : Type 0 where
   pub flag : ℕ
@@ -67,19 +82,33 @@ OneForm = (s : List ℕ) → Bytes s → readingOf s .refusal ≡ 0 → Whole s 
 abbrev pub OneNewest : Type 0
 OneNewest = (s : List ℕ) → Bytes s → readingOf s .refusal ≡ 0 → versionOf s ≡ newest → s ≡ recordOf (readingOf s .clock)
 
--- .. of version 2: those of a clock of kind 0 in range
+-- .. of version 3: those of a clock in range that has no remainder and no leftover
+pub record OfVersion3 (s : List ℕ) (c : Clock) : Type 0 where
+  pub sound : inRange c ≡ true
+  pub parts : WithoutParts c
+  pub written : s ≡ recordIn 3 c (c .updated) (c .interval)
+
+-- exactly these are read, and what is then written has the newest version in the place of its version and two zeros at the end, and is
+-- else the same
+pub record Version3 : Type 0 where
+  pub only : (s : List ℕ) → Bytes s → readingOf s .refusal ≡ 0 → versionOf s ≡ 3 → OfVersion3 s (readingOf s .clock)
+  pub always : (s : List ℕ) (c : Clock) → OfVersion3 s c → readingOf s ≡ accepted c
+  pub after : (s : List ℕ) (c : Clock) → OfVersion3 s c → recordOf c ≡ newest ∷ drop 1 s ++ noParts
+
+-- .. of version 2: those of such a clock, of kind 0
 pub record OfVersion2 (s : List ℕ) (c : Clock) : Type 0 where
   pub sound : inRange c ≡ true
   pub kind : c .kind ≡ kind256
+  pub parts : WithoutParts c
   pub written : s ≡ recordIn 2 c (c .updated) (c .interval)
 
--- exactly these are read, and what is then written has the newest version and the kind in the place of its version, and is else the same
+-- exactly these are read, and what is then written has the kind too, after the version
 pub record Version2 : Type 0 where
   pub only : (s : List ℕ) → Bytes s → readingOf s .refusal ≡ 0 → versionOf s ≡ 2 → OfVersion2 s (readingOf s .clock)
   pub always : (s : List ℕ) (c : Clock) → OfVersion2 s c → readingOf s ≡ accepted c
-  pub after : (s : List ℕ) (c : Clock) → OfVersion2 s c → recordOf c ≡ newest ∷ kind256 ∷ drop 1 s
+  pub after : (s : List ℕ) (c : Clock) → OfVersion2 s c → recordOf c ≡ newest ∷ kind256 ∷ drop 1 s ++ noParts
 
--- .. of version 1: those of a clock of kind 0 in range that has no earlier update, with a flag and a second beside it, which are judged as
+-- .. of version 1: those of such a clock, of kind 0, that has no earlier update, with a flag and a second beside it, which are judged as
 -- document 01 says and not kept
 pub record OfVersion1 (s : List ℕ) (c : Clock) : Type 0 where
   pub flag : ℕ
@@ -89,13 +118,14 @@ pub record OfVersion1 (s : List ℕ) (c : Clock) : Type 0 where
   pub sound : inRange c ≡ true
   pub kind : c .kind ≡ kind256
   pub none : (c .updated ≡ 0) × (c .interval ≡ 0)
+  pub parts : WithoutParts c
   pub written : s ≡ recordIn 1 c flag second
 
--- exactly these are read, and what is then written is of the newest version, with no earlier update
+-- exactly these are read, and what is then written is as from the version 2 record of the clock
 pub record Version1 : Type 0 where
   pub only : (s : List ℕ) → Bytes s → readingOf s .refusal ≡ 0 → versionOf s ≡ 1 → OfVersion1 s (readingOf s .clock)
   pub always : (s : List ℕ) (c : Clock) → OfVersion1 s c → readingOf s ≡ accepted c
-  pub after : (s : List ℕ) (c : Clock) → OfVersion1 s c → recordOf c ≡ recordIn newest c 0 0
+  pub after : (s : List ℕ) (c : Clock) → OfVersion1 s c → recordOf c ≡ newest ∷ kind256 ∷ drop 1 (recordIn 2 c 0 0) ++ noParts
 
 -- ---- what is refused
 
@@ -126,37 +156,32 @@ pub record LongestIs (version n : ℕ) : Type 0 where
   pub says : Says version one flag last
   pub long : length (recordIn version one flag last) ≡ n
 
--- "The longest record is 45 bytes", of version 1; with the count in the place of the second it is 42, and with the kind 43
+-- "The longest record is 45 bytes", of version 1; with the count in the place of the second it is 42, with the kind 43, and with
+-- remainder and leftover 45 again
 pub record Longest : Type 0 where
   pub version1 : LongestIs 1 45
   pub version2 : LongestIs 2 42
   pub version3 : LongestIs 3 43
+  pub version4 : LongestIs 4 45
 
--- the fresh clocks' records, as they are written
-abbrev pub freshRecord256 : List ℕ
-freshRecord256 =
-    0x03 ∷ 0x00 ∷ 0x00 ∷ 0x00 ∷ 0x00 ∷ 0x00 ∷ 0x00 ∷ 0x80 ∷ 0x80 ∷ 0x80 ∷ 0x40 ∷ 0x00 ∷ 0x00 ∷ 0x00 ∷ 0x80 ∷ 0xC8 ∷ 0xD0 ∷ 0x07 ∷ 0x80 ∷ 0xC8 ∷ 0xD0 ∷ 0x07 ∷ 0x04 ∷ []
+-- the fresh clocks' fields from the seconds to the status, in every version
+abbrev pub freshFields256 : List ℕ
+freshFields256 =
+    0x00 ∷ 0x00 ∷ 0x00 ∷ 0x00 ∷ 0x00 ∷ 0x80 ∷ 0x80 ∷ 0x80 ∷ 0x40 ∷ 0x00 ∷ 0x00 ∷ 0x00 ∷ 0x80 ∷ 0xC8 ∷ 0xD0 ∷ 0x07 ∷ 0x80 ∷ 0xC8 ∷ 0xD0 ∷ 0x07 ∷ 0x04 ∷ []
 
-abbrev pub freshRecord1024 : List ℕ
-freshRecord1024 =
-    0x03 ∷ 0x01 ∷ 0x00 ∷ 0x00 ∷ 0x00 ∷ 0x00 ∷ 0x00 ∷ 0x80 ∷ 0x80 ∷ 0x80 ∷ 0x90 ∷ 0x01 ∷ 0x00 ∷ 0x00 ∷ 0x00 ∷ 0x80 ∷ 0xC8 ∷ 0xD0 ∷ 0x07 ∷ 0x80 ∷ 0xC8 ∷ 0xD0 ∷ 0x07 ∷ 0x04 ∷ []
+abbrev pub freshFields1024 : List ℕ
+freshFields1024 =
+    0x00 ∷ 0x00 ∷ 0x00 ∷ 0x00 ∷ 0x00 ∷ 0x80 ∷ 0x80 ∷ 0x80 ∷ 0x90 ∷ 0x01 ∷ 0x00 ∷ 0x00 ∷ 0x00 ∷ 0x80 ∷ 0xC8 ∷ 0xD0 ∷ 0x07 ∷ 0x80 ∷ 0xC8 ∷ 0xD0 ∷ 0x07 ∷ 0x04 ∷ []
 
--- that of kind 0 in version 2
-abbrev pub freshRecord2 : List ℕ
-freshRecord2 =
-    0x02 ∷ 0x00 ∷ 0x00 ∷ 0x00 ∷ 0x00 ∷ 0x00 ∷ 0x80 ∷ 0x80 ∷ 0x80 ∷ 0x40 ∷ 0x00 ∷ 0x00 ∷ 0x00 ∷ 0x80 ∷ 0xC8 ∷ 0xD0 ∷ 0x07 ∷ 0x80 ∷ 0xC8 ∷ 0xD0 ∷ 0x07 ∷ 0x04 ∷ []
-
--- document 01's, of version 1: "The fresh clock, whole, in hexadecimal"
-abbrev pub freshRecord1 : List ℕ
-freshRecord1 =
-    0x01 ∷ 0x00 ∷ 0x00 ∷ 0x00 ∷ 0x00 ∷ 0x00 ∷ 0x80 ∷ 0x80 ∷ 0x80 ∷ 0x40 ∷ 0x00 ∷ 0x00 ∷ 0x00 ∷ 0x80 ∷ 0xC8 ∷ 0xD0 ∷ 0x07 ∷ 0x80 ∷ 0xC8 ∷ 0xD0 ∷ 0x07 ∷ 0x04 ∷ []
-
--- those of the newest version are written, and the others are still read
+-- the records of the newest version are written, and the others are still read; that of version 1 is document 01's: "The fresh clock,
+-- whole, in hexadecimal"
 pub record FreshRecords : Type 0 where
-  pub written256 : recordOf (freshClock kind256) ≡ freshRecord256
-  pub written1024 : recordOf (freshClock kind1024) ≡ freshRecord1024
-  pub read2 : readingOf freshRecord2 ≡ accepted (freshClock kind256)
-  pub read1 : readingOf freshRecord1 ≡ accepted (freshClock kind256)
+  pub written256 : recordOf (freshClock kind256) ≡ 0x04 ∷ 0x00 ∷ freshFields256 ++ noParts
+  pub written1024 : recordOf (freshClock kind1024) ≡ 0x04 ∷ 0x01 ∷ freshFields1024 ++ noParts
+  pub read3of256 : readingOf (0x03 ∷ 0x00 ∷ freshFields256) ≡ accepted (freshClock kind256)
+  pub read3of1024 : readingOf (0x03 ∷ 0x01 ∷ freshFields1024) ≡ accepted (freshClock kind1024)
+  pub read2 : readingOf (0x02 ∷ freshFields256) ≡ accepted (freshClock kind256)
+  pub read1 : readingOf (0x01 ∷ freshFields256) ≡ accepted (freshClock kind256)
 
 -- ---- through a buffer
 

@@ -1,23 +1,15 @@
 // One field of a record: a number at a place, and its range.
 ghost use mathlib.Core.Path.{_≡_};
+ghost use lib.Dec.{leb};
 ghost use Rattle.number.specs.Layout.{fieldAt, placeAt, mappedRange};
 ghost use Rattle.number.specs.Mapping.{unmapped};
-ghost use Rattle.state.specs.Device.{kindRange};
 ghost use Rattle.record.specs.Inner.{toldField, upTo, betweenZ};
-ghost use Rattle.record.specs.Layout.{knownVersion, holdsKind};
-use crate::layout::KIND_SINCE;
+ghost use Rattle.record.specs.Layout.{knownVersion};
 use crate::layout::VERSION;
-use clock::KIND_256;
-use clock::KIND_1024;
 use number::Decoded;
 
 // The last version that is read, as wide as the numbers that are.
 const LAST_VERSION: u64 = VERSION as u64;
-
-// The kind of records that hold none, and the last of the kinds.
-const OLDER_KIND: u32 = KIND_256 as u32;
-
-const LAST_KIND: u32 = KIND_1024 as u32;
 
 // What reading a field gives: its number, which is in its range, and the place after it; or the refusal, 10, 11 or 12.
 // A signed field's number is the one that it is mapped to.
@@ -44,16 +36,6 @@ pub(crate) fn version(bytes: &[u8]) -> Field
     }
 }
 
-// The kind of the device, which follows the version. Older records are of the first device, and hold no kind.
-pub(crate) fn kind(bytes: &[u8], at: usize, version: u32) -> Field
-    ensures { λ r. ⌜ toldField r ≡ placeAt (holdsKind version) kindRange (now (bytes .entry)) at ⌝ }
-{
-    if version < KIND_SINCE {
-        return Field::Value(OLDER_KIND, at);
-    }
-    plain(bytes, at, LAST_KIND)
-}
-
 // The field at `at` whose values are 0 to `most`.
 pub(crate) fn plain(bytes: &[u8], at: usize, most: u32) -> Field
     ensures { λ r. ⌜ toldField r ≡ fieldAt (upTo most) (now (bytes .entry)) at ⌝ }
@@ -67,6 +49,16 @@ pub(crate) fn plain(bytes: &[u8], at: usize, most: u32) -> Field
             Field::Refused(12)
         }
     }
+}
+
+// The same field of a record that holds it from version `first` on: in an older one it takes no byte and is 0.
+pub(crate) fn since(first: u32, version: u32, bytes: &[u8], at: usize, most: u32) -> Field
+    ensures { λ r. ⌜ toldField r ≡ placeAt (leb first version) (upTo most) (now (bytes .entry)) at ⌝ }
+{
+    if version < first {
+        return Field::Value(0, at);
+    }
+    plain(bytes, at, most)
 }
 
 // The mapped field at `at` whose values are `least` to `most`.

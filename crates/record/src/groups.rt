@@ -7,6 +7,7 @@ use clock::Clock;
 use clock::Frequency;
 use clock::Micros;
 use clock::OffsetUnits;
+use clock::PhaseParts;
 use clock::PhaseUnits;
 
 // What stands before the table's fields.
@@ -42,6 +43,11 @@ pub(crate) struct Errors {
     pub status: u8,
 }
 
+pub(crate) struct Parts {
+    pub remainder: u32,
+    pub leftover: u32,
+}
+
 // What is kept of an earlier update: nothing in version 1, where a second followed the flag.
 pub(crate) fn kept_update(version: u32, flag: u8, last: u32) -> Update
     ensures { λ r. ⌜ r ≡ keptUpdate version flag last ⌝ }
@@ -58,8 +64,8 @@ pub(crate) fn kept_update(version: u32, flag: u8, last: u32) -> Update
     }
 }
 
-pub(crate) fn clock_of(h: Head, t: Time, l: Loop, a: Rate, u: Update, e: Errors) -> Clock
-    ensures { λ r. ⌜ r ≡ clockOf h t l a u e ⌝ }
+pub(crate) fn clock_of(h: Head, t: Time, l: Loop, a: Rate, u: Update, e: Errors, p: Parts) -> Clock
+    ensures { λ r. ⌜ r ≡ clockOf h t l a u e p ⌝ }
 {
     Clock {
         seconds: t.seconds,
@@ -75,5 +81,7 @@ pub(crate) fn clock_of(h: Head, t: Time, l: Loop, a: Rate, u: Update, e: Errors)
         esterror: Micros(e.esterror),
         status: e.status,
         kind: h.kind,
+        remainder: PhaseParts(unmapped_of(p.remainder)),
+        leftover: PhaseParts(unmapped_of(p.leftover)),
     }
 }

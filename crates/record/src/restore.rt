@@ -3,22 +3,26 @@ ghost use mathlib.Core.Path.{_≡_};
 ghost use Rattle.number.specs.Layout.{whole, readFrom};
 ghost use Rattle.record.specs.Reading.{restored, readingOf, refusedWith};
 ghost use Rattle.number.specs.Inner.{refusedAs};
-ghost use Rattle.record.specs.Inner.{toldField, lastMost, fromTime, fromLoop, fromRate, fromUpdate, fromErrors};
+ghost use Rattle.record.specs.Inner.{toldField, lastMost, mappedParts, fromTime, fromLoop, fromRate, fromUpdate, fromErrors, fromParts};
 use crate::field::Field;
-use crate::field::kind;
 use crate::field::plain;
 use crate::field::signed;
+use crate::field::since;
 use crate::field::version;
 use crate::groups::Errors;
 use crate::groups::Head;
 use crate::groups::Loop;
+use crate::groups::Parts;
 use crate::groups::Rate;
 use crate::groups::Time;
 use crate::groups::Update;
 use crate::groups::clock_of;
 use crate::groups::kept_update;
+use crate::layout::KIND_SINCE;
+use crate::layout::PARTS_SINCE;
 use clock::Clock;
 use clock::KIND_256;
+use clock::KIND_1024;
 use clock::LAST_MICRO;
 use clock::LAST_SECOND;
 use clock::MAX_CONSTANT;
@@ -30,6 +34,9 @@ use clock::PHASE_UPPER_END;
 use clock::TIME_BAD;
 use clock::device_constants;
 use clock::fresh;
+
+// The last of the kinds.
+const LAST_KIND: u32 = KIND_1024 as u32;
 
 // The greatest numbers that signed fields are mapped to whose ranges are as wide below 0 as above, so that a number up to these is in
 // range.
@@ -78,6 +85,13 @@ fn last_most(version: u32, flag: u32) -> u32
     }
 }
 
+// The greatest number that a remainder or a leftover is mapped to: either has fewer parts than make a unit of the record's own device.
+fn mapped_parts(kind: u8) -> u32
+    ensures { λ r. ⌜ r ≡ mappedParts kind ⌝ }
+{
+    2 * (device_constants(kind).device.divisor - 1)
+}
+
 // The clock that the bytes are a record of.
 pub fn read(bytes: &[u8]) -> Restored
     ensures { λ r. ⌜ r ≡ readingOf (now (bytes .entry)) ⌝ }
@@ -86,7 +100,7 @@ pub fn read(bytes: &[u8]) -> Restored
     let Field::Value(v, n0) = d0 else {
         return refused(d0);
     };
-    let d1 = kind(bytes, n0, v);
+    let d1 = since(KIND_SINCE, v, bytes, n0, LAST_KIND);
     let Field::Value(k, n1) = d1 else {
         return refused(d1);
     };
@@ -181,7 +195,7 @@ fn update_fields(bytes: &[u8], at: usize, h: Head, t: Time, l: Loop, a: Rate) ->
     error_fields(bytes, n2, h, t, l, a, u)
 }
 
-// Both errors and the status, which are the last.
+// Both errors and the status.
 fn error_fields(bytes: &[u8], at: usize, h: Head, t: Time, l: Loop, a: Rate, u: Update) -> Restored
     ensures { λ r. ⌜ r ≡ restored (readFrom (fromErrors h t l a u) (now (bytes .entry)) at) ⌝ }
 {
@@ -203,7 +217,36 @@ fn error_fields(bytes: &[u8], at: usize, h: Head, t: Time, l: Loop, a: Rate, u: 
         esterror: esterror,
         status: status,
     };
-    finished(bytes, n3, clock_of(h, t, l, a, u, e))
+    part_fields(bytes, n3, h, t, l, a, u, e)
+}
+
+// Remainder and leftover, which are the last.
+fn part_fields(
+    bytes: &[u8],
+    at: usize,
+    h: Head,
+    t: Time,
+    l: Loop,
+    a: Rate,
+    u: Update,
+    e: Errors,
+) -> Restored
+    ensures { λ r. ⌜ r ≡ restored (readFrom (fromParts h t l a u e) (now (bytes .entry)) at) ⌝ }
+{
+    let most = mapped_parts(h.kind);
+    let d1 = since(PARTS_SINCE, h.version, bytes, at, most);
+    let Field::Value(remainder, n1) = d1 else {
+        return refused(d1);
+    };
+    let d2 = since(PARTS_SINCE, h.version, bytes, n1, most);
+    let Field::Value(leftover, n2) = d2 else {
+        return refused(d2);
+    };
+    let p = Parts {
+        remainder: remainder,
+        leftover: leftover,
+    };
+    finished(bytes, n2, clock_of(h, t, l, a, u, e, p))
 }
 
 // After the last field: nothing may follow.

@@ -19,14 +19,24 @@ fits-frequency c = search needs
 fits-adjustment : (c : tie.After-unmapped-of4) → SFits w32 (c .unmapped-of4 .result)
 fits-adjustment c = search needs
 
+fits-remainder : (c : tie.After-unmapped-of5) → SFits w32 (c .unmapped-of5 .result)
+fits-remainder c = search needs
+
+fits-leftover : (c : tie.After-unmapped-of6) → SFits w32 (c .unmapped-of6 .result)
+fits-leftover c = search needs
+
 returns : tie.Need-returns
 returns c =
     rw (
-      toZ-ofZ (fits-phase (c .before .before .before)) ∙ c .before .before .before .unmapped-of .ensures,
-      toZ-ofZ (fits-offset (c .before .before)) ∙ c .before .before .unmapped-of2 .ensures,
-      toZ-ofZ (fits-frequency (c .before)) ∙ c .before .unmapped-of3 .ensures,
-      toZ-ofZ (fits-adjustment c) ∙ c .unmapped-of4 .ensures,
+      toZ-ofZ (fits-phase (c .before .before .before .before .before)) ∙ c .before .before .before .before .before .unmapped-of .ensures,
+      toZ-ofZ (fits-offset (c .before .before .before .before)) ∙ c .before .before .before .before .unmapped-of2 .ensures,
+      toZ-ofZ (fits-frequency (c .before .before .before)) ∙ c .before .before .before .unmapped-of3 .ensures,
+      toZ-ofZ (fits-adjustment (c .before .before)) ∙ c .before .before .unmapped-of4 .ensures,
+      toZ-ofZ (fits-remainder (c .before)) ∙ c .before .unmapped-of5 .ensures,
+      toZ-ofZ (fits-leftover c) ∙ c .unmapped-of6 .ensures,
     )
 
 pub clock-of-spec : {M : Type 1} → statement M
-clock-of-spec = tie.close (tie.spec (λ c κs. tt) (λ c κs. tt) (λ c κs. tt) (λ c κs. tt) returns)
+clock-of-spec =
+    tie.close
+    (tie.spec (λ c κs. tt) (λ c κs. tt) (λ c κs. tt) (λ c κs. tt) (λ c κs. tt) (λ c κs. tt) returns)

@@ -5,11 +5,11 @@ use mathlib.Core.Path.{_≡_, refl, sym, _∙_, ap}
 use mathlib.Core.List.{List}
 use Prim.Native.Nat.{ℕ}
 use lib.Dec.{lit<}
-use Rattle.number.specs.Layout.{whole, readFrom}
+use Rattle.number.specs.Layout.{readFrom}
 use Rattle.number.proofs.Layouts.{AtField, field-went, field-stopped}
-use Rattle.record.specs.Layout.{errorFields, clockOf}
+use Rattle.record.specs.Layout.{errorFields}
 use Rattle.record.specs.Reading.{restored}
-use Rattle.record.specs.Inner.{toldField, upTo, fromErrors}
+use Rattle.record.specs.Inner.{toldField, upTo, fromErrors, fromParts}
 use Rattle.record.specs.declared.groups.Head.{Head}
 use Rattle.record.specs.declared.groups.Time.{Time}
 use Rattle.record.specs.declared.groups.Loop.{Loop}
@@ -20,7 +20,7 @@ use Rattle.record.proofs.FieldLaws.{read-in}
 use Rattle.record.proofs.restore.error_fields.Statement.{statement}
 use Rattle.record.proofs.restore.error_fields.Tie as tie
 
-opened : (h : Head) (t : Time) (l : Loop) (a : Rate) (u : Update) (s : List ℕ) (at : ℕ) → restored (readFrom (fromErrors h t l a u) s at) ≡ restored (readFrom (errorFields (λ e. whole (clockOf h t l a u e))) s at)
+opened : (h : Head) (t : Time) (l : Loop) (a : Rate) (u : Update) (s : List ℕ) (at : ℕ) → restored (readFrom (fromErrors h t l a u) s at) ≡ restored (readFrom (errorFields (λ e. fromParts h t l a u e)) s at)
 unfolding fromErrors
 opened h t l a u s at = refl
 
@@ -52,11 +52,7 @@ cast-status c =
     record { fits = byte 4 (lit< tt) (read-in (upTo 4) _ _ (d .before .before .before .plain3 .ensures) (d .before .d3 .given .1)) }
 
 returns-4 : tie.Need-returns-4
-returns-4 c =
-    let d = c .before .before in
-    c .finished .ensures
-    ∙ rw (c .before .clock-of .ensures)
-    (sym (field-went (at-status (d .before .before .before .before)) (d .before .before .before .plain3 .ensures) (ap toldField (d .before .d3 .given .1))))
+returns-4 c = c .part-fields .ensures ∙ sym (field-went (at-status (c .before .before .before .before .before)) (c .before .before .before .before .plain3 .ensures) (ap toldField (c .before .before .d3 .given .1)))
 
 pub error-fields-spec : {M : Type 1} → statement M
 error-fields-spec =
@@ -79,6 +75,5 @@ error-fields-spec =
     (λ c κs. tt)
     returns-3
     cast-status
-    (λ c κs. tt)
     (λ c κs. tt)
     returns-4)

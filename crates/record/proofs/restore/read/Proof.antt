@@ -8,14 +8,14 @@ use Rattle.number.specs.Layout.{readFrom}
 use Rattle.number.proofs.Layouts.{AtField, field-went, field-stopped}
 use Rattle.record.specs.Layout.{holdsKind, headFields, recordLayout}
 use Rattle.record.specs.Reading.{restored, readingOf}
-use Rattle.record.specs.Inner.{toldField, fromTime, fromLoop, fromRate, fromUpdate, fromErrors}
+use Rattle.record.specs.Inner.{toldField, fromTime, fromLoop, fromRate, fromUpdate, fromErrors, fromParts}
 use Rattle.record.proofs.Ranges.{byte, kind-within}
 use Rattle.record.proofs.FieldLaws.{read-suits}
 use Rattle.record.proofs.restore.read.Statement.{statement}
 use Rattle.record.proofs.restore.read.Tie as tie
 
 opened : (s : List ℕ) → readingOf s ≡ restored (readFrom (headFields fromTime) s 0)
-unfolding readingOf recordLayout fromTime fromLoop fromRate fromUpdate fromErrors
+unfolding readingOf recordLayout fromTime fromLoop fromRate fromUpdate fromErrors fromParts
 opened s = refl
 
 abbrev at-version : tie.After-shared-slice-known → AtField restored
@@ -29,19 +29,19 @@ returns : tie.Need-returns
 returns c = field-stopped (at-version (c .before .before .before .before)) (c .before .before .before .version .ensures) (ap toldField (c .before .enum-told .given .1)) (c .refused .ensures)
 
 returns-2 : tie.Need-returns-2
-returns-2 c = field-stopped (at-kind (c .before .before .before .before)) (c .before .before .before .kind .ensures) (ap toldField (c .before .enum-told2 .given .1)) (c .refused2 .ensures)
+returns-2 c = field-stopped (at-kind (c .before .before .before .before)) (c .before .before .before .since .ensures) (ap toldField (c .before .enum-told2 .given .1)) (c .refused2 .ensures)
 
 cast-k : tie.Need-cast-k
 cast-k c =
     let v = c .before .before .before .before .before .d0 .given .0 .0 in
-    let e = read-suits (holdsKind v) kindRange _ _ (c .before .before .before .kind .ensures) (c .before .d1 .given .1) in
+    let e = read-suits (holdsKind v) kindRange _ _ (c .before .before .before .since .ensures) (c .before .d1 .given .1) in
     record { fits = byte 1 (lit< tt) (kind-within v (c .before .d1 .given .0 .0) e) }
 
 returns-3 : tie.Need-returns-3
 returns-3 c =
     let d = c .before in
     c .time-fields .ensures
-    ∙ sym (field-went (at-kind (d .before .before .before .before)) (d .before .before .before .kind .ensures) (ap toldField (d .before .d1 .given .1)))
+    ∙ sym (field-went (at-kind (d .before .before .before .before)) (d .before .before .before .since .ensures) (ap toldField (d .before .d1 .given .1)))
 
 pub read-spec : {M : Type 1} → statement M
 read-spec =
