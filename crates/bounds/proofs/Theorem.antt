@@ -78,7 +78,7 @@ module _ (c : Clock) (b : Book) (i : Inv c b) where
       let u : perMicro / 268435456 ≡ perPhase c = omega (arith, m .perMicro) in
       let d = add (lit (268435456 * told c)) (self (c .phase .0)) in
       let r = ap (λ (x : ℕ). x * told c) (m .perMicro) in
-      same (add (add (lit (perMicro * told c)) (times (perMicro / 268435456) (self (c .phase .0)))) (self (c .leftover .0))) (self (b .exact))
+      same (add (add (lit (perMicro * told c)) (times (perMicro / 268435456) (self (c .phase .0)))) (self _)) (self (b .exact))
       (omega (arith, i .kept .eq, ap (λ (x : ℕ). perPhase c * x) (d .eq), r, ap (λ (x : ℕ). x * posPart (c .phase .0)) u, ap (λ (x : ℕ). x * negPart (c .phase .0)) u))
 
 module _ (start : Clock) (events : List Event) (i : Inv (clockFrom start events) (bookOn start events)) where
