@@ -17,6 +17,7 @@
 
 _Static_assert(sizeof(struct clock) == sizeof(struct heukelvos_clock), "bench/reference.c has the fields of c/heukelvos.h");
 _Static_assert(offsetof(struct clock, kind) == offsetof(struct heukelvos_clock, kind), "bench/reference.c has the kind's place");
+_Static_assert(offsetof(struct clock, leftover) == offsetof(struct heukelvos_clock, leftover), "bench/reference.c has the leftover's place");
 
 static int in_place(struct clock *c)
 {

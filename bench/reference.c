@@ -46,6 +46,8 @@ struct clock {
 	uint32_t esterror;
 	uint8_t status;
 	uint8_t kind;
+	int32_t remainder; /* parts of a phase unit that each tick leaves */
+	int32_t leftover;  /* those that have come together */
 };
 
 /*
@@ -54,15 +56,15 @@ struct clock {
  */
 struct device {
 	int32_t tick;        /* whole us of a tick */
-	uint32_t most_tick;  /* the most us that a tick adds */
+	uint32_t per_micro;  /* the longest ticks that go into a us (2^-32 ticks, rounded down) */
 	int32_t scale;       /* phase units a tick for each offset unit of the share */
-	int32_t divisor;     /* frequency units that make one phase unit a tick */
+	int32_t divisor;     /* frequency units that make one phase unit a tick, and so the parts of a phase unit */
 	int32_t base;        /* phase units a tick for what the ticks lack of a second */
 	int32_t least, most; /* adjustment */
 };
 
-static const struct device recorder_256 = { 3906, 3908, 64, 16, 67108864, -168819712, 303037440 };
-static const struct device recorder_1024 = { 976, 977, 16, 64, 150994944, 92012800, 209977088 };
+static const struct device recorder_256 = { 3906, 1099264, 64, 16, 67108864, -168819712, 303037440 };
+static const struct device recorder_1024 = { 976, 4397057, 16, 64, 150994944, 92012800, 209977088 };
 
 /* A function whose device is known where it is called. */
 #define constant_device static inline __attribute__((always_inline))
@@ -91,6 +93,8 @@ constant_device bool in_range_on(const struct device *d, const struct clock *c)
 		&& -MAX_LEFT <= c->offset && c->offset <= MAX_LEFT
 		&& -MAX_FREQUENCY <= c->frequency && c->frequency <= MAX_FREQUENCY
 		&& d->least <= c->adjustment && c->adjustment <= d->most
+		&& -d->divisor < c->remainder && c->remainder < d->divisor
+		&& -d->divisor < c->leftover && c->leftover < d->divisor
 		&& c->constant <= 4
 		&& c->updated <= 1 && c->interval <= c->updated * MAX_INTERVAL
 		&& c->maxerror <= MAX_ERROR
@@ -102,6 +106,9 @@ constant_device bool in_range_on(const struct device *d, const struct clock *c)
 static const uint32_t least_adjustment[] = { -168819712, 92012800 };
 static const uint32_t adjustment_span[] = { 471857152, 117964288 };
 
+/* The most parts that remainder and leftover may have. */
+static const uint32_t most_parts[] = { 15, 63 };
+
 /* For the calls that need no other constant of the device: by a table a label takes 7 instructions fewer than by code of each kind. */
 static bool in_range(const struct clock *c)
 {
@@ -111,12 +118,15 @@ static bool in_range(const struct clock *c)
 		&& -MAX_LEFT <= c->offset && c->offset <= MAX_LEFT
 		&& -MAX_FREQUENCY <= c->frequency && c->frequency <= MAX_FREQUENCY
 		&& (uint32_t)c->adjustment - least_adjustment[c->kind] <= adjustment_span[c->kind]
+		&& c->remainder + most_parts[c->kind] <= 2 * most_parts[c->kind]
+		&& c->leftover + most_parts[c->kind] <= 2 * most_parts[c->kind]
 		&& c->constant <= 4
 		&& c->updated <= 1 && c->interval <= c->updated * MAX_INTERVAL
 		&& c->maxerror <= MAX_ERROR
 		&& c->esterror <= MAX_ERROR
 		&& c->status <= BAD;
 }
+
 static inline __attribute__((always_inline)) void leap(struct clock *c)
 {
 	switch (c->status) {
@@ -153,6 +163,7 @@ static __attribute__((noinline)) void rollover(struct clock *c)
 	int32_t share = c->offset / (1 << (10 + c->constant));
 	c->offset -= share;
 	c->adjustment = d->scale * share + c->frequency / d->divisor + d->base;
+	c->remainder = c->frequency % d->divisor;
 	c->interval += c->interval < c->updated * MAX_INTERVAL;
 	leap(c);
 }
@@ -161,18 +172,23 @@ constant_device int tick_on(const struct device *d, struct clock *c)
 {
 	if (!in_range_on(d, c))
 		return 1;
-	int32_t sum = c->phase + c->adjustment;
+	int32_t parts = c->leftover + c->remainder;
+	/* -1, 0 or 1; by comparisons a tick takes 2 to 5 instructions more */
+	int32_t unit = parts / d->divisor;
+	int32_t sum = c->phase + c->adjustment + unit;
 	int32_t carry = sum / PHASE_US;
 	uint32_t micros = c->micros + d->tick + carry;
 	if (micros < 1000000) {
 		c->micros = micros;
 		c->phase = sum - carry * PHASE_US;
+		c->leftover = parts - unit * d->divisor;
 		return 0;
 	}
 	if (c->seconds == LAST_SECOND)
 		return 3;
 	c->micros = micros - 1000000;
 	c->phase = sum - carry * PHASE_US;
+	c->leftover = parts - unit * d->divisor;
 	rollover(c);
 	return 0;
 }
@@ -213,15 +229,17 @@ constant_device struct run run_judged(const struct device *d, struct clock *c, u
 	return r;
 }
 
-/* Tick by tick, on a state that was judged once: the two fields that every tick moves in registers. */
+/* Tick by tick, on a state that was judged once: the three fields that every tick moves in registers. */
 constant_device struct run run_looped(const struct device *d, struct clock *c, uint64_t n, bool stop)
 {
 	uint64_t left = n;
 	uint32_t micros = c->micros;
-	int32_t phase = c->phase;
+	int32_t phase = c->phase, leftover = c->leftover;
 	int refusal = 0;
 	for (; left; left--) {
-		int32_t sum = phase + c->adjustment;
+		int32_t parts = leftover + c->remainder;
+		int32_t unit = parts >= d->divisor ? 1 : parts <= -d->divisor ? -1 : 0;
+		int32_t sum = phase + c->adjustment + unit;
 		int32_t carry = sum / PHASE_US;
 		uint32_t next = micros + d->tick + carry;
 		if (unlikely(next >= 1000000)) {
@@ -238,23 +256,32 @@ constant_device struct run run_looped(const struct device *d, struct clock *c, u
 		}
 		micros = next;
 		phase = sum - carry * PHASE_US;
+		leftover = parts - unit * d->divisor;
 	}
 	c->micros = micros;
 	c->phase = phase;
+	c->leftover = leftover;
 	return (struct run){ n - left, refusal };
 }
 
-/* A rollover but for its count, with what does not change in a run worked out before it. */
-constant_device void roll(const struct device *d, struct clock *c, int32_t divisor, int32_t base)
+/* A rollover but for its count and the maximum error, with what does not change in a run worked out before it. */
+constant_device void roll(const struct device *d, struct clock *c, int32_t divisor, int32_t base, int32_t remainder)
 {
 	c->seconds++;
-	c->maxerror = c->maxerror <= MAX_ERROR - 100 ? c->maxerror + 100 : MAX_ERROR;
 	int32_t share = c->offset / divisor;
 	c->offset -= share;
 	c->adjustment = d->scale * share + base;
+	c->remainder = remainder;
 	if (likely(c->status == OK || c->status == BAD))
 		return;
 	leap(c);
+}
+
+/* The maximum error after so many rollovers: limited once. */
+static inline uint32_t grown(const struct clock *c, uint64_t rollovers)
+{
+	const uint64_t e = c->maxerror + 100 * rollovers;
+	return e < MAX_ERROR ? e : MAX_ERROR;
 }
 
 /* The interval after a run, of the one before it and the run's rollovers together: limited once. */
@@ -266,35 +293,41 @@ static inline uint32_t counted(const struct clock *c, uint64_t rolled)
 
 /*
  * On a state that was judged once, the ticks of a second in one step. Between rollovers the adjustment is constant, so j ticks carry
- * (phase + j adjustments) / 2^28 whole microseconds. A tick adds at most 3,908 or 977 us, so none but the last of the j can reach the end.
+ * (phase + j adjustments) / 2^28 whole microseconds, with the units that the leftover reaches in the phase. By the longest ticks that go into
+ * what is left of the second none but the last of the j can reach its end.
  * The state in a copy, the count downwards, the usual case first, in line: of the forms tried the fewest instructions for a second of ticks.
  */
 constant_device struct run run_closed(const struct device *d, struct clock *state, uint64_t n, bool stop)
 {
 	struct clock c = *state;
 	const int32_t divisor = 1 << (10 + c.constant), base = c.frequency / d->divisor + d->base;
+	const int32_t remainder = c.frequency % d->divisor;
 	uint64_t left = n, rolled = c.interval;
 	int refusal = 0;
 	while (left) {
-		uint64_t j = (999999 - c.micros) / d->most_tick + 1;
+		uint64_t j = ((uint64_t)(999999 - c.micros) * d->per_micro >> 32) + 1;
 		if (j > left)
 			j = left;
-		int64_t sum = c.phase + (int64_t)j * c.adjustment;
+		int32_t parts = c.leftover + (int32_t)j * c.remainder;
+		int64_t sum = c.phase + parts / d->divisor + (int64_t)j * c.adjustment;
 		int32_t carry = sum / PHASE_US;
 		uint32_t micros = c.micros + d->tick * (uint32_t)j + carry;
 		if (likely(micros >= 1000000)) {
 			if (unlikely(c.seconds == LAST_SECOND)) {
 				j--;
-				sum -= c.adjustment;
+				parts -= c.remainder;
+				sum = c.phase + parts / d->divisor + (int64_t)j * c.adjustment;
 				carry = sum / PHASE_US;
 				c.micros += d->tick * (uint32_t)j + carry;
 				c.phase = sum - carry * (int64_t)PHASE_US;
+				c.leftover = parts % d->divisor;
 				left -= j;
 				refusal = 3;
 				break;
 			}
 			micros -= 1000000;
-			roll(d, &c, divisor, base);
+			c.maxerror = c.maxerror <= MAX_ERROR - 100 ? c.maxerror + 100 : MAX_ERROR;
+			roll(d, &c, divisor, base, remainder);
 			rolled++;
 			if (stop) {
 				n -= left - j;
@@ -304,6 +337,7 @@ constant_device struct run run_closed(const struct device *d, struct clock *stat
 		left -= j;
 		c.micros = micros;
 		c.phase = sum - carry * (int64_t)PHASE_US;
+		c.leftover = parts % d->divisor;
 	}
 	c.interval = counted(&c, rolled);
 	*state = c;
@@ -316,21 +350,22 @@ static __attribute__((noinline, unused)) struct run run_rest(const struct device
 }
 
 /*
- * The place in the second as one number of phase units, and a 64-bit division for the ticks that are left of it: one step a second, for many
- * seconds the fewest instructions of the forms tried. Where phase or adjustment is negative, as run_closed.
+ * The place in the second as one number of parts of a phase unit, and a 64-bit division for the ticks that are left of it: one step a second,
+ * for many seconds the fewest instructions of the forms tried. Where phase, adjustment or parts are negative, as run_closed.
  */
 constant_device struct run run_position(const struct device *d, struct clock *state, uint64_t n, bool stop)
 {
 	struct clock c = *state;
 	const int32_t divisor = 1 << (10 + c.constant), base = c.frequency / d->divisor + d->base;
-	const int64_t second = INT64_C(1000000) << 28;
+	const int32_t remainder = c.frequency % d->divisor;
+	const int64_t unit = d->divisor, micro = unit << 28, second = 1000000 * micro;
 	uint64_t left = n, rolled = c.interval;
 	int refusal = 0;
 	bool stopped = false;
-	if (likely(c.phase >= 0)) {
-		int64_t at = ((int64_t)c.micros << 28) + c.phase;
-		while (left && c.adjustment >= 0) {
-			int64_t step = ((int64_t)d->tick << 28) + c.adjustment;
+	if (likely(c.phase >= 0 && c.leftover >= 0)) {
+		int64_t at = c.micros * micro + c.phase * unit + c.leftover;
+		while (left && c.adjustment >= 0 && c.remainder >= 0) {
+			int64_t step = d->tick * micro + c.adjustment * unit + c.remainder;
 			uint64_t j = (uint64_t)(second - 1 - at) / (uint64_t)step + 1;
 			if (j > left)
 				j = left;
@@ -343,7 +378,7 @@ constant_device struct run run_position(const struct device *d, struct clock *st
 					break;
 				}
 				at -= second;
-				roll(d, &c, divisor, base);
+				roll(d, &c, divisor, base, remainder);
 				rolled++;
 				if (stop) {
 					left -= j;
@@ -353,8 +388,10 @@ constant_device struct run run_position(const struct device *d, struct clock *st
 			}
 			left -= j;
 		}
-		c.micros = at >> 28;
-		c.phase = at & (PHASE_US - 1);
+		c.micros = (uint64_t)at / micro;
+		c.phase = (uint64_t)at / unit & (PHASE_US - 1);
+		c.leftover = at & (unit - 1);
+		c.maxerror = grown(&c, rolled - c.interval);
 		c.interval = counted(&c, rolled);
 	}
 	*state = c;
@@ -445,6 +482,8 @@ static int set(struct clock *c, uint64_t seconds, uint64_t micros)
 	c->offset = 0;
 	const struct device *d = device_of(c->kind);
 	c->adjustment = c->frequency / d->divisor + d->base;
+	c->remainder = c->frequency % d->divisor;
+	c->leftover = 0;
 	c->updated = 0;
 	c->interval = 0;
 	c->maxerror = MAX_ERROR;
@@ -521,10 +560,7 @@ static size_t number_write(uint8_t *buf, size_t len, size_t at, uint32_t n)
 	return at;
 }
 
-/*
- * The reader is a loop, which serves records best. -DSTRAIGHT takes the one below, without a loop and at every place of its own: of single
- * numbers it takes fewer instructions, of a record far more.
- */
+/* The reader is a loop. -DSTRAIGHT takes the one below, without a loop and at every place of its own: it takes fewer instructions, and more code. */
 #ifndef STRAIGHT
 static int number_read(const uint8_t *bytes, size_t len, size_t *at, uint64_t *value)
 {
@@ -591,12 +627,13 @@ static uint32_t map(int32_t v)
 }
 
 /*
- * Records. Version 3 is written; the earlier ones lack the kind, which is 0, and in version 1 the second of the last offset stands at the
- * place of the interval.
+ * Records. Version 4 is written; the earlier ones lack remainder and leftover, those before version 3 the kind too, which are 0, and in
+ * version 1 the second of the last offset stands at the place of the interval.
  */
 
-#define VERSION 3
-#define RECORD_NUMBERS 14
+#define VERSION 4
+#define KIND_SINCE 3
+#define RECORD_NUMBERS 16
 
 static int record_write(const struct clock *c, uint8_t *buf, size_t len, size_t *length)
 {
@@ -618,6 +655,8 @@ static int record_write(const struct clock *c, uint8_t *buf, size_t len, size_t 
 		c->maxerror,
 		c->esterror,
 		c->status,
+		map(c->remainder),
+		map(c->leftover),
 	};
 	uint8_t text[48], *p = text;
 	for (int k = 0; k < RECORD_NUMBERS; k++) {
@@ -634,7 +673,8 @@ static int record_write(const struct clock *c, uint8_t *buf, size_t len, size_t 
 	return 0;
 }
 
-static int plain_field(const uint8_t *bytes, size_t len, size_t *at, uint32_t least, uint32_t most, uint32_t *value)
+/* At every place of their own: called, a record takes an eighth more instructions, and with the straight reader four fifths more. */
+static inline __attribute__((always_inline)) int plain_field(const uint8_t *bytes, size_t len, size_t *at, uint32_t least, uint32_t most, uint32_t *value)
 {
 	uint64_t n;
 	int refusal = number_read(bytes, len, at, &n);
@@ -646,7 +686,7 @@ static int plain_field(const uint8_t *bytes, size_t len, size_t *at, uint32_t le
 	return 0;
 }
 
-static int signed_field(const uint8_t *bytes, size_t len, size_t *at, int32_t least, int32_t most, int32_t *value)
+static inline __attribute__((always_inline)) int signed_field(const uint8_t *bytes, size_t len, size_t *at, int32_t least, int32_t most, int32_t *value)
 {
 	uint64_t n;
 	int refusal = number_read(bytes, len, at, &n);
@@ -662,10 +702,10 @@ static int signed_field(const uint8_t *bytes, size_t len, size_t *at, int32_t le
 static int fields_read(const uint8_t *bytes, size_t len, struct clock *c)
 {
 	size_t at = 0;
-	uint32_t version, kind = KIND_256, constant, updated, status;
+	uint32_t version, kind = KIND_256, constant, updated, status, remainder = 0, leftover = 0;
 	int refusal;
 	if ((refusal = plain_field(bytes, len, &at, 1, VERSION, &version))
-		|| (version == VERSION && (refusal = plain_field(bytes, len, &at, 0, KIND_1024, &kind)))
+		|| (version >= KIND_SINCE && (refusal = plain_field(bytes, len, &at, 0, KIND_1024, &kind)))
 		|| (refusal = plain_field(bytes, len, &at, 0, LAST_SECOND, &c->seconds))
 		|| (refusal = plain_field(bytes, len, &at, 0, 999999, &c->micros))
 		|| (refusal = signed_field(bytes, len, &at, 1 - PHASE_US, PHASE_US - 1, &c->phase))
@@ -677,7 +717,9 @@ static int fields_read(const uint8_t *bytes, size_t len, struct clock *c)
 		|| (refusal = plain_field(bytes, len, &at, 0, !updated ? 0 : version == 1 ? LAST_SECOND : MAX_INTERVAL, &c->interval))
 		|| (refusal = plain_field(bytes, len, &at, 0, MAX_ERROR, &c->maxerror))
 		|| (refusal = plain_field(bytes, len, &at, 0, MAX_ERROR, &c->esterror))
-		|| (refusal = plain_field(bytes, len, &at, 0, BAD, &status)))
+		|| (refusal = plain_field(bytes, len, &at, 0, BAD, &status))
+		|| (version == VERSION && (refusal = plain_field(bytes, len, &at, 0, 2 * most_parts[kind], &remainder)))
+		|| (version == VERSION && (refusal = plain_field(bytes, len, &at, 0, 2 * most_parts[kind], &leftover))))
 		return refusal;
 	if (at < len)
 		return 13;
@@ -685,6 +727,8 @@ static int fields_read(const uint8_t *bytes, size_t len, struct clock *c)
 	c->updated = updated;
 	c->status = status;
 	c->kind = kind;
+	c->remainder = unmap(remainder);
+	c->leftover = unmap(leftover);
 	if (version == 1) {
 		c->updated = 0;
 		c->interval = 0;
@@ -909,7 +953,8 @@ static uint64_t mix_clock(uint64_t sum, const struct clock *c)
 	sum = mix(mix(sum, c->constant), c->updated);
 	sum = mix(mix(sum, c->interval), c->maxerror);
 	sum = mix(mix(sum, c->esterror), c->status);
-	return mix(sum, c->kind);
+	sum = mix(sum, c->kind);
+	return mix(mix(sum, map(c->remainder)), map(c->leftover));
 }
 
 /* What the operations work on, taken from memory as the program runs: so the compiler cannot know what is in range. */
@@ -926,8 +971,8 @@ static uint32_t small(const uint64_t *values, uint64_t i)
 }
 
 /*
- * A clock of a kind with work to do: an offset of 1,000 us to pay off, a frequency, and time constant 2. Its adjustment lies in the ranges of
- * both kinds.
+ * A clock of a kind with work to do: an offset of 1,000 us to pay off, a frequency that leaves a remainder at both kinds, and time constant 2.
+ * Its adjustment lies in the ranges of both kinds.
  */
 static struct clock begun(const uint64_t *values, int kind)
 {
@@ -936,7 +981,7 @@ static struct clock begun(const uint64_t *values, int kind)
 		.micros = small(values, 0),
 		.phase = small(values, 0),
 		.offset = small(values, 10) * 1638400,
-		.frequency = small(values, 12) * 10288,
+		.frequency = small(values, 12) * 10289,
 		.adjustment = small(values, 40) * 3355443,
 		.constant = small(values, 2),
 		.updated = small(values, 1),
@@ -945,6 +990,8 @@ static struct clock begun(const uint64_t *values, int kind)
 		.esterror = small(values, 16) * 1000000,
 		.status = small(values, 0),
 		.kind = small(values, kind),
+		.remainder = small(values, 5) - small(values, 9),
+		.leftover = small(values, 3) - small(values, 7),
 	};
 	return c;
 }

@@ -90,6 +90,8 @@ enum heukelvos_mode {
 #define HEUKELVOS_MOST_ADJUSTMENT_256 303037440
 #define HEUKELVOS_LEAST_ADJUSTMENT_1024 92012800 /* phase units a tick, of the 1,024 Hz recorder */
 #define HEUKELVOS_MOST_ADJUSTMENT_1024 209977088
+#define HEUKELVOS_PARTS_256 16                 /* parts of a phase unit, of the 256 Hz recorder: one is 2^-32 us */
+#define HEUKELVOS_PARTS_1024 64                /* parts of a phase unit, of the 1,024 Hz recorder: one is 2^-34 us */
 #define HEUKELVOS_MAX_CONSTANT 4
 #define HEUKELVOS_MIN_INTERVAL 64              /* rollovers from one accepted offset to the next: sooner ones are refused */
 #define HEUKELVOS_MAX_INTERVAL 1024            /* rollovers since the last offset: later ones are not counted */
@@ -98,7 +100,7 @@ enum heukelvos_mode {
 #define HEUKELVOS_LABEL_SIZE 20                /* bytes of a label */
 
 /*
- * A clock, 44 bytes. The bytes between fields mean nothing: compare clocks field by field. A field outside its range makes a clock that
+ * A clock, 52 bytes. The bytes between fields mean nothing: compare clocks field by field. A field outside its range makes a clock that
  * is not sound; heukelvos_in_range tells.
  */
 struct heukelvos_clock {
@@ -115,15 +117,17 @@ struct heukelvos_clock {
 	uint32_t esterror;  /* 0 to 16,000,000 us */
 	uint8_t status;     /* enum heukelvos_status */
 	uint8_t kind;       /* enum heukelvos_kind; no call changes it */
+	int32_t remainder;  /* what the frequency in force leaves of a phase unit each tick; parts, fewer than a unit of the clock's kind has, either way */
+	int32_t leftover;   /* what has come together of it, and is not a whole phase unit yet; the same */
 };
 
-/* The answer of a call that may change the clock, and of heukelvos_fresh: 48 bytes. */
+/* The answer of a call that may change the clock, and of heukelvos_fresh: 56 bytes. */
 struct heukelvos_outcome {
 	uint8_t refusal;
 	struct heukelvos_clock clock; /* after the call; where it is refused, as it was handed in, and from heukelvos_fresh that of kind 0 */
 };
 
-/* The answer of a catch-up by value: 64 bytes. */
+/* The answer of a catch-up by value: 72 bytes. */
 struct heukelvos_catch_up_answer {
 	uint8_t refusal;              /* of the call itself: 0, 1 or 16 */
 	uint64_t count;               /* how many ticks were accepted */
@@ -189,8 +193,8 @@ struct heukelvos_counted heukelvos_catch_up(struct heukelvos_clock *clock, uint6
  * heukelvos_ticked     what heukelvos_tick answers and leaves
  * heukelvos_caught_up  what heukelvos_catch_up answers and leaves
  * heukelvos_set        the clock set to seconds since 1970, 0 to 4,294,967,295, and microseconds, 0 to 999,999. Frequency, time
- *                      constant and kind stay; phase and offset left are 0, no offset counts as accepted, both errors are 16,000,000 us,
- *                      the status is BAD. Refusals 1, 2
+ *                      constant and kind stay; phase, offset left and leftover are 0, adjustment and remainder are those of the frequency,
+ *                      no offset counts as accepted, both errors are 16,000,000 us, the status is BAD. Refusals 1, 2
  * heukelvos_adjust     the clock with every selected field's effect, ntp_adjtime() of RFC 1589. An offset (us) moves the frequency by
  *                      offset x interval / 4^constant, within its range, and the interval is then 0. A status is written only where the
  *                      clock is OK or BAD is written; an offset turns BAD to OK, unless the same request writes BAD. An offset fewer

@@ -14,7 +14,7 @@
 #define SIZE(type, n) _Static_assert(sizeof(struct type) == (n), "size of " #type)
 #define PLACE(type, field, n) _Static_assert(offsetof(struct type, field) == (n), #type "." #field)
 
-SIZE(heukelvos_clock, 44);
+SIZE(heukelvos_clock, 52);
 PLACE(heukelvos_clock, seconds, 0);
 PLACE(heukelvos_clock, micros, 4);
 PLACE(heukelvos_clock, phase, 8);
@@ -28,10 +28,12 @@ PLACE(heukelvos_clock, maxerror, 32);
 PLACE(heukelvos_clock, esterror, 36);
 PLACE(heukelvos_clock, status, 40);
 PLACE(heukelvos_clock, kind, 41);
-SIZE(heukelvos_outcome, 48);
+PLACE(heukelvos_clock, remainder, 44);
+PLACE(heukelvos_clock, leftover, 48);
+SIZE(heukelvos_outcome, 56);
 PLACE(heukelvos_outcome, refusal, 0);
 PLACE(heukelvos_outcome, clock, 4);
-SIZE(heukelvos_catch_up_answer, 64);
+SIZE(heukelvos_catch_up_answer, 72);
 PLACE(heukelvos_catch_up_answer, refusal, 0);
 PLACE(heukelvos_catch_up_answer, count, 8);
 PLACE(heukelvos_catch_up_answer, tick_refusal, 16);
@@ -60,14 +62,17 @@ PLACE(heukelvos_told, reading, 4);
 
 typedef struct heukelvos_clock Clock;
 
-/* What sets the devices apart: rate (Hz), ends and fresh value of the adjustment (phase units), and the frequency units of one phase unit. */
+/*
+ * What sets the devices apart: rate (Hz), whole us of a tick, ends and fresh value of the adjustment (phase units), and the frequency units of
+ * one phase unit, which are its parts.
+ */
 #define KINDS 2
 static const struct device {
-	int rate;
-	int32_t least, most, base, divisor;
+	int rate, tick;
+	int32_t least, most, base, parts;
 } devices[KINDS] = {
-	[HEUKELVOS_KIND_256] = { 256, HEUKELVOS_LEAST_ADJUSTMENT_256, HEUKELVOS_MOST_ADJUSTMENT_256, 67108864, 16 },
-	[HEUKELVOS_KIND_1024] = { 1024, HEUKELVOS_LEAST_ADJUSTMENT_1024, HEUKELVOS_MOST_ADJUSTMENT_1024, 150994944, 64 },
+	[HEUKELVOS_KIND_256] = { 256, 3906, HEUKELVOS_LEAST_ADJUSTMENT_256, HEUKELVOS_MOST_ADJUSTMENT_256, 67108864, HEUKELVOS_PARTS_256 },
+	[HEUKELVOS_KIND_1024] = { 1024, 976, HEUKELVOS_LEAST_ADJUSTMENT_1024, HEUKELVOS_MOST_ADJUSTMENT_1024, 150994944, HEUKELVOS_PARTS_1024 },
 };
 
 static bool same(Clock a, Clock b)
@@ -75,15 +80,17 @@ static bool same(Clock a, Clock b)
 	return a.seconds == b.seconds && a.micros == b.micros && a.phase == b.phase && a.offset == b.offset
 		&& a.frequency == b.frequency && a.adjustment == b.adjustment && a.constant == b.constant
 		&& a.updated == b.updated && a.interval == b.interval && a.maxerror == b.maxerror
-		&& a.esterror == b.esterror && a.status == b.status && a.kind == b.kind;
+		&& a.esterror == b.esterror && a.status == b.status && a.kind == b.kind
+		&& a.remainder == b.remainder && a.leftover == b.leftover;
 }
 
 static void show(const char *name, Clock c)
 {
 	printf("    %s: %" PRIu32 " s %" PRIu32 " us, phase %" PRId32 ", offset %" PRId32 ", frequency %" PRId32
-	       ", adjustment %" PRId32 ", constant %d, updated %d, interval %" PRIu32 ", errors %" PRIu32 " %" PRIu32 ", status %d, kind %d\n",
+	       ", adjustment %" PRId32 ", constant %d, updated %d, interval %" PRIu32 ", errors %" PRIu32 " %" PRIu32 ", status %d, kind %d"
+	       ", remainder %" PRId32 ", leftover %" PRId32 "\n",
 	       name, c.seconds, c.micros, c.phase, c.offset, c.frequency, c.adjustment, c.constant, c.updated, c.interval,
-	       c.maxerror, c.esterror, c.status, c.kind);
+	       c.maxerror, c.esterror, c.status, c.kind, c.remainder, c.leftover);
 }
 
 /* A clock with a frequency (units), an offset (us), a time constant and then a status asked for. */
@@ -157,7 +164,7 @@ static bool catches_up(Clock c, uint64_t ceiling, bool stop)
 static const uint64_t midnight = 1798761600; /* 2027-01-01T00:00:00Z */
 
 /* Clocks of a kind to catch up: plain ones, one before each kind of leap, some at the end of time, extreme ones. */
-#define CLOCKS 13
+#define CLOCKS 15
 static Clock sound(int kind, int n)
 {
 	Clock c;
@@ -177,6 +184,12 @@ static Clock sound(int kind, int n)
 		c = adjusted(kind, midnight - 3, 0, 0, 1000, 2, HEUKELVOS_TIME_INS);
 		c.interval = HEUKELVOS_MAX_INTERVAL - 4;
 		return c;
+	case 12:
+	case 13:
+		c = adjusted(kind, HEUKELVOS_LAST_SECOND - 2, 0, n == 12 ? -33333 : 33333, 0, 0, HEUKELVOS_TIME_OK);
+		c.remainder = n == 12 ? devices[kind].parts - 1 : 1 - devices[kind].parts;
+		c.leftover = c.remainder;
+		return c;
 	default:
 		c = fresh(kind);
 		c.micros = HEUKELVOS_LAST_MICRO;
@@ -187,7 +200,7 @@ static Clock sound(int kind, int n)
 }
 
 /* Clocks with one field out of its range, each of which the library must see in its place; 11 counts from an offset that there is not. */
-#define FAULTS 18
+#define FAULTS 22
 static Clock unsound(int kind, int n)
 {
 	Clock c = fresh(kind);
@@ -209,6 +222,10 @@ static Clock unsound(int kind, int n)
 	case 14: c.esterror = HEUKELVOS_MAX_ERROR + 1; break;
 	case 15: c.status = HEUKELVOS_TIME_BAD + 1; break;
 	case 16: c.kind = HEUKELVOS_KIND_1024 + 1; break;
+	case 17: c.remainder = devices[kind].parts; break;
+	case 18: c.remainder = -devices[kind].parts; break;
+	case 19: c.leftover = devices[kind].parts; break;
+	case 20: c.leftover = -devices[kind].parts; break;
 	default: c.kind = UINT8_MAX; break;
 	}
 	return c;
@@ -227,11 +244,13 @@ static bool ends(int kind)
 	most.constant = HEUKELVOS_MAX_CONSTANT;
 	most.updated = 1;
 	most.interval = HEUKELVOS_MAX_INTERVAL;
+	most.remainder = most.leftover = devices[kind].parts - 1;
 	least.phase = 1 - HEUKELVOS_PHASE_PER_MICRO;
 	least.offset = -HEUKELVOS_MAX_OFFSET;
 	least.frequency = -HEUKELVOS_MAX_FREQUENCY;
 	least.adjustment = devices[kind].least;
 	least.maxerror = least.esterror = least.status = 0;
+	least.remainder = least.leftover = 1 - devices[kind].parts;
 	return heukelvos_in_range(most) && heukelvos_in_range(least);
 }
 
@@ -449,11 +468,18 @@ static uint64_t draw(uint64_t below)
 	return drawn % below;
 }
 
+/* Any parts that a clock of a kind may have. */
+static int32_t some_parts(int kind)
+{
+	int32_t most = devices[kind].parts - 1;
+	return (int32_t)draw(2 * most + 1) - most;
+}
+
 /* A clock with any 32 bits in one field: mostly one that is not sound. */
 static Clock spoilt(Clock c)
 {
 	uint32_t any = draw(UINT64_C(1) << 32);
-	switch (draw(10)) {
+	switch (draw(12)) {
 	case 0: c.micros = any; break;
 	case 1: c.phase = (int32_t)any; break;
 	case 2: c.offset = (int32_t)any; break;
@@ -463,6 +489,8 @@ static Clock spoilt(Clock c)
 	case 6: c.maxerror = any; break;
 	case 7: c.interval = any; break;
 	case 8: c.kind = any % 4; break;
+	case 9: c.remainder = (int32_t)any; break;
+	case 10: c.leftover = (int32_t)any; break;
 	default: c.status = any % 8; break;
 	}
 	return c;
@@ -479,6 +507,10 @@ static bool random_runs(void)
 			c.interval = draw(2) ? draw(HEUKELVOS_MAX_INTERVAL + 1) : HEUKELVOS_MAX_INTERVAL - draw(8);
 		else
 			c.updated = 0;
+		if (draw(2)) {
+			c.remainder = some_parts(c.kind);
+			c.leftover = some_parts(c.kind);
+		}
 		if (draw(2))
 			c = heukelvos_caught_up(c, draw(2000), false).clock;
 		if (draw(8) == 0)
@@ -534,13 +566,97 @@ static bool other_calls(int kind)
 		&& heukelvos_set(c, UINT64_C(1) << 32, 0).refusal == HEUKELVOS_REFUSED_TIME && same(heukelvos_set(c, 0, 1000000).clock, c);
 }
 
-/* A setting keeps the frequency and the kind, and so its adjustment is what both lead to. */
+/* A setting keeps the frequency and the kind, and so its adjustment and its remainder are what both lead to. */
 static bool settings(int kind)
 {
-	int32_t frequency = -33 * HEUKELVOS_FREQUENCY_PER_PPM;
-	Clock c = heukelvos_set(adjusted(kind, 0, 0, frequency, 1000, 4, HEUKELVOS_TIME_OK), 5, 6).clock;
+	int32_t frequency = -33 * HEUKELVOS_FREQUENCY_PER_PPM - 5;
+	Clock c = adjusted(kind, 0, 0, frequency, 1000, 4, HEUKELVOS_TIME_OK);
+	c.leftover = 7;
+	c = heukelvos_set(c, 5, 6).clock;
 	return c.seconds == 5 && c.micros == 6 && c.kind == kind && c.frequency == frequency && c.constant == 4 && c.offset == 0
-		&& c.adjustment == frequency / devices[kind].divisor + devices[kind].base;
+		&& c.adjustment == frequency / devices[kind].parts + devices[kind].base && c.remainder == -5 && c.leftover == 0;
+}
+
+/*
+ * The time of a clock in parts of a phase unit, modulo 2^64: two times that are equal so and lie less than 2^64 parts apart, which is more than
+ * 17 minutes, are equal.
+ */
+static uint64_t exact(Clock c)
+{
+	uint64_t micros = UINT64_C(1000000) * c.seconds + c.micros;
+	return (micros * HEUKELVOS_PHASE_PER_MICRO + c.phase) * devices[c.kind].parts + c.leftover;
+}
+
+/* A clock with no offset goes forward by the same parts in each tick, and none is lost: of frequencies that leave the most and the least. */
+static bool nothing_lost(int kind)
+{
+	static const int32_t frequencies[] = { 1, -1, 15, -15, 16, -16, 17, 63, -63, 65, -123457, HEUKELVOS_MAX_FREQUENCY - 1,
+		1 - HEUKELVOS_MAX_FREQUENCY };
+	const struct device *d = &devices[kind];
+	for (size_t k = 0; k < sizeof frequencies / sizeof *frequencies; k++) {
+		Clock c = fresh(kind);
+		c.frequency = frequencies[k];
+		c = heukelvos_set(c, midnight - 100, 0).clock;
+		const uint64_t tick = (UINT64_C(1) * d->tick * HEUKELVOS_PHASE_PER_MICRO + d->base) * d->parts + frequencies[k];
+		uint64_t at = exact(c);
+		for (int n = 0; n < 3000; n++)
+			if (heukelvos_tick(&c) != 0 || exact(c) != (at += tick))
+				return printf("    frequency %" PRId32 ", tick %d\n", frequencies[k], n), show("after it", c), false;
+		if (heukelvos_catch_up(&c, HEUKELVOS_MAX_CEILING, false).count != HEUKELVOS_MAX_CEILING || exact(c) != at + HEUKELVOS_MAX_CEILING * tick)
+			return printf("    frequency %" PRId32 "\n", frequencies[k]), show("after a catch-up", c), false;
+	}
+	return true;
+}
+
+/*
+ * The whole unit that comes together goes into the phase before its microseconds are taken. Here it makes one, or keeps one from being made;
+ * and in the last second the tick is refused for it, or is not.
+ */
+static bool whole_unit(int kind, int way)
+{
+	const struct device *d = &devices[kind];
+	Clock c = fresh(kind), with, without;
+	c.phase = HEUKELVOS_PHASE_PER_MICRO - d->base - (way > 0);
+	c.remainder = way;
+	c.leftover = way * (d->parts - 1);
+	with = heukelvos_ticked(c).clock;
+	c.leftover -= way;
+	without = heukelvos_ticked(c).clock;
+	if ((int)with.micros != d->tick + (way > 0) || with.phase != (way > 0 ? 0 : HEUKELVOS_PHASE_PER_MICRO - 1) || with.leftover != 0
+	    || (int)without.micros != d->tick + (way < 0) || without.phase != (way < 0 ? 0 : HEUKELVOS_PHASE_PER_MICRO - 1)
+	    || without.leftover != way * (d->parts - 1))
+		return show("with the unit", with), show("without", without), false;
+	c.seconds = HEUKELVOS_LAST_SECOND;
+	c.micros = HEUKELVOS_LAST_MICRO - d->tick;
+	without = c;
+	with = c;
+	with.leftover += way;
+	return heukelvos_tick(way > 0 ? &with : &without) == HEUKELVOS_REFUSED_LAST && heukelvos_tick(way > 0 ? &without : &with) == 0
+		&& (way > 0 ? with : without).leftover == way * (d->parts - (way > 0 ? 1 : 2));
+}
+
+/* A request moves neither the remainder nor the leftover; the next rollover does, after its tick has added the one before. */
+static bool in_force(int kind)
+{
+	const int32_t parts = devices[kind].parts;
+	Clock c = fresh(kind), before = c;
+	c.frequency = 3;
+	c = heukelvos_set(c, 0, 0).clock;
+	c.leftover = 2;
+	c = asked_for(c, -5, 1000, 0, HEUKELVOS_TIME_OK);
+	if (c.remainder != 3 || c.leftover != 2)
+		return show("after a request", c), false;
+	while (before.micros <= c.micros) {
+		before = c;
+		if (heukelvos_tick(&c) != 0)
+			return show("refused", c), false;
+	}
+	return c.remainder == -5 && c.leftover == (before.leftover + 3) % parts && before.remainder == 3;
+}
+
+static bool parts_of_a_unit(int kind)
+{
+	return nothing_lost(kind) && whole_unit(kind, 1) && whole_unit(kind, -1) && in_force(kind);
 }
 
 /* The day of calls on one lent clock, of the kind that the replay uses. With `history` the events, else the lines. */
@@ -635,6 +751,7 @@ int main(int argc, char **argv)
 	check("200,000 catch-ups of random clocks: lent, by value, by single ticks", random_runs());
 	check("requests", both(requests));
 	check("settings", both(settings));
+	check("parts of a phase unit: none is lost, whole units, what is in force", both(parts_of_a_unit));
 	check("refused settings, readings, labels", both(other_calls));
 	return failed != 0;
 }

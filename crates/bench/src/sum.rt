@@ -34,7 +34,14 @@ fn mix_state(sum: u64, c: Clock) -> u64 {
     mix_byte(mix_byte(mix_micros(s, c.esterror), c.status), c.kind)
 }
 
+fn mix_parts(sum: u64, c: Clock) -> u64 {
+    mix(
+        mix(sum, map(c.remainder.0) as u64),
+        map(c.leftover.0) as u64,
+    )
+}
+
 // A whole clock more.
 pub(crate) fn mix_clock(sum: u64, c: Clock) -> u64 {
-    mix_state(mix_loop(mix_time(sum, c), c), c)
+    mix_parts(mix_state(mix_loop(mix_time(sum, c), c), c), c)
 }

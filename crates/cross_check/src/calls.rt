@@ -8,12 +8,14 @@ use crate::form::ROW;
 use crate::many::Many;
 use crate::many::event;
 use crate::many::ticks;
+use crate::random::at_edge;
 use crate::random::catch_up_row;
 use crate::random::draw;
 use crate::random::row;
 use crate::random::state;
 use crate::rules::State;
 use crate::rules::begin;
+use crate::rules::gathered;
 use crate::rules::times;
 use crate::signed::least;
 use crate::signed::minus;
@@ -21,19 +23,24 @@ use crate::signed::pick;
 use crate::signed::plus;
 
 // The refusal that the second implementation gave, and whether the first gave the same answer; of a list, how many offsets it accepted on a
-// clock with an earlier update: neither the first of the list, nor the first after a setting.
+// clock with an earlier update: neither the first of the list, nor the first after a setting; of a clock at an edge, 1 where whole units that
+// come together decide its answer, up or down.
 pub(crate) struct Verdict {
     pub(crate) refusal: u64,
     pub(crate) same: bool,
     pub(crate) offsets: u64,
+    pub(crate) up: u64,
+    pub(crate) down: u64,
 }
 
-// Of a case that is no list.
+// Of a case that is neither.
 pub(crate) fn verdict_of(refusal: u64, same: bool) -> Verdict {
     Verdict {
         refusal: refusal,
         same: same,
         offsets: 0,
+        up: 0,
+        down: 0,
     }
 }
 
@@ -65,6 +72,32 @@ pub(crate) fn long_catch_up(case: u64) -> Verdict {
     let before = to_tick(s.kind, v / 2 % 76800);
     s.seconds = pick(v % 2 == 0, minus(4294967295, before), s.seconds);
     compared(s, &catch_up_row(minus(65536, v / 1024 % 2), 0))
+}
+
+// Whether the microseconds that an event of ticks comes to, or its refusal, would be others had no part come together.
+fn unit_decides(s: State, row: &[u64; ROW]) -> bool {
+    let mut without = s;
+    without.remainder = 0;
+    without.leftover = 0;
+    let a = event(s, row);
+    let b = event(without, row);
+    let same = (a.refusal == b.refusal) & (a.tick_refusal == b.tick_refusal);
+    !same | (a.state.micros != b.state.micros)
+}
+
+// The ticks of a clock at an edge: one by its own call or by a catch-up, more by a catch-up.
+pub(crate) fn edge_ticks(case: u64) -> Verdict {
+    let e = at_edge(case);
+    let s = e.state;
+    let n = draw(case, 97);
+    let mut row = catch_up_row(e.ticks, n / 2 % 2);
+    row[0] = pick((e.ticks == 1) & (n % 4 < 2), 0, 4);
+    let mut v = compared(s, &row);
+    let decides = unit_decides(s, &row);
+    let side = gathered(s);
+    v.up = pick(decides & !side.negative, 1, 0);
+    v.down = pick(decides & side.negative, 1, 0);
+    v
 }
 
 // About 1,000 of 1,024 are ticks, half of the others requests, and a quarter catch-ups.

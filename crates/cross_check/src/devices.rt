@@ -3,6 +3,7 @@
 ghost use Prim.Native.Nat.{_<_};
 use crate::signed::Signed;
 use crate::signed::mapped;
+use crate::signed::pick;
 use crate::signed::plus;
 use crate::signed::sum;
 use crate::signed::unmapped;
@@ -57,6 +58,29 @@ pub(crate) fn slew(kind: u64, share: u64) -> u64 {
 
 fn drift(kind: u64, frequency: u64) -> u64 {
     to_tick(kind, frequency % 4294967296 * PHASE_FREQUENCY)
+}
+
+// The parts that a unit of the phase has: one is what a unit of the frequency makes in a tick.
+pub(crate) fn parts(kind: u64) -> u64
+    ensures { λ r. ⌜ 0 < r ⌝ }
+{
+    if kind == 0 { 16 } else { 64 }
+}
+
+// The fraction that a frequency loses in a tick, in parts. Its number is mapped, as the frequency is.
+pub(crate) fn lost(kind: u64, frequency: u64) -> u64 {
+    let f = unmapped(frequency);
+    let second = f.size % 4294967296 * PHASE_FREQUENCY;
+    mapped(f.negative, second % rate(kind) / PHASE_FREQUENCY)
+}
+
+// So many units of the phase in parts.
+pub(crate) fn in_parts(kind: u64, v: Signed) -> Signed {
+    let n = v.size % 4294967296;
+    Signed {
+        negative: v.negative,
+        size: pick(kind == 0, n * 16, n * 64),
+    }
 }
 
 // The adjustment that lies so far from that of a clock with no share and no frequency. Its number is mapped, as the distance is.

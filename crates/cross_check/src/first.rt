@@ -2,6 +2,7 @@
 use crate::dates::Label;
 use crate::devices::adjustment_at;
 use crate::devices::end_of;
+use crate::devices::parts;
 use crate::devices::rate;
 use crate::devices::slew;
 use crate::devices::whole_micros;
@@ -27,6 +28,7 @@ use clock::Frequency;
 use clock::Micros;
 use clock::OffsetUnits;
 use clock::Outcome;
+use clock::PhaseParts;
 use clock::PhaseUnits;
 use clock::Reading;
 use event::Call;
@@ -84,6 +86,8 @@ fn clock_of(s: State) -> Clock {
         esterror: Micros(word(s.estimated)),
         status: byte(s.status),
         kind: byte(s.kind),
+        remainder: PhaseParts(to_i32(s.remainder)),
+        leftover: PhaseParts(to_i32(s.leftover)),
     }
 }
 
@@ -109,7 +113,8 @@ fn same_clock(s: State, c: Clock) -> bool {
     same = same & same_byte(s.constant, c.constant) & same_byte(s.flag, c.updated);
     same = same & same_word(s.since, c.interval) & same_word(s.maximum, c.maxerror.0);
     same = same & same_word(s.estimated, c.esterror.0) & same_byte(s.status, c.status);
-    same & same_byte(s.kind, c.kind)
+    same = same & same_byte(s.kind, c.kind) & same_signed(s.remainder, c.remainder.0);
+    same & same_signed(s.leftover, c.leftover.0)
 }
 
 // A reading shows seconds, microseconds, status and both errors.
@@ -223,10 +228,10 @@ fn same_bits() -> bool {
     same & (m.esterror == 8) & (m.status == 16) & (m.constant == 32)
 }
 
-// A kind's constants. An adjustment grows by `scale` for each unit of the share, and by 1 for `divisor` units of the frequency.
+// A kind's constants. An adjustment grows by `scale` for each unit of the share, and by 1 for `divisor` units of the frequency, each a part of it.
 fn same_device(kind: u64, d: Device) -> bool {
     let mut same = same_word(rate(kind), d.rate) & same_word(whole_micros(kind), d.tick.0);
-    same = same & same_word(slew(kind, 1), d.scale) & same_word(rate(kind) / 16, d.divisor);
+    same = same & same_word(slew(kind, 1), d.scale) & same_word(parts(kind), d.divisor);
     same = same & same_signed(adjustment_at(kind, 0), d.base.0);
     same & same_signed(end_of(kind, true), d.least.0) & same_signed(end_of(kind, false), d.most.0)
 }
@@ -297,7 +302,7 @@ pub(crate) fn write_numbers(
     words[4] = b;
     words[5] = b;
     words[13] = b;
-    let w = number::write_all(&mut buf[..room % 65], at, &words[..count % 15]);
+    let w = number::write_all(&mut buf[..room % 65], at, &words[..count % 17]);
     Wrote {
         refusal: wide(w.refusal),
         next: w.next,

@@ -6,7 +6,7 @@ use crate::signed::plus;
 use crate::signed::wide;
 
 // How many numbers a row has: as many as the longest record. An event has fewer.
-pub(crate) const ROW: usize = 14;
+pub(crate) const ROW: usize = 16;
 
 pub(crate) struct Number {
     pub(crate) refusal: u64,

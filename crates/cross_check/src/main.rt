@@ -1,9 +1,10 @@
 // Runs a second implementation of documents 01 and 02 beside the first, over pseudo-random and edge cases, and compares every answer to the last bit.
 // One line for each group says how many cases were compared, how many differ, and how often the second implementation gave each answer:
 // 0 for accepted, else the number of the refusal, of the call or of the tick that ended a catch-up. Of lists it also says how many offsets
-// were accepted where there was an earlier one. The last line is the verdict: it ends in `the two agree` where every group has cases and none
-// of them differs, and there were 1,000 such offsets; else it begins with `cross_check: DIFFER` and names the other groups, with how many
-// cases differ of how many, or with `cross_check: TOO FEW` and says how many offsets there were.
+// were accepted where there was an earlier one, and of clocks at an edge in how many cases whole units that come together decide the
+// microseconds or the refusal. The last line is the verdict: it ends in `the two agree` where every group has cases and none of them differs,
+// and there were 1,000 such offsets and as many such cases, up and down; else it begins with `cross_check: DIFFER` and names the other groups,
+// with how many cases differ of how many, or with `cross_check: TOO FEW` and says how many of these there were.
 mod calls;
 mod dates;
 mod devices;
@@ -20,6 +21,7 @@ mod rules;
 mod signed;
 
 use crate::calls::Verdict;
+use crate::signed::least;
 use crate::signed::pick;
 use crate::signed::plus;
 use libc::STDOUT_FILENO;
@@ -33,11 +35,14 @@ const ANSWERS: usize = 18;
 // The fewest offsets of all lists that are accepted where there was an earlier one: their gain is what the interval moves.
 const FEWEST: u64 = 1000;
 
+// The fewest cases that whole units decide, in either direction.
+const FEWEST_UNITS: u64 = 1000;
+
 // How many groups there are.
-const GROUPS: usize = 21;
+const GROUPS: usize = 23;
 
 // Their names, of sixteen bytes each, in the order of the lines.
-const NAMES: [u8; 336] = *b"ticks           \
+const NAMES: [u8; 368] = *b"ticks           \
 settings        \
 requests        \
 readings        \
@@ -45,6 +50,7 @@ catch-ups       \
 long catch-ups  \
 lists of events \
 many ticks      \
+units carried   \
 kinds           \
 numbers read    \
 numbers written \
@@ -56,6 +62,7 @@ records written \
 records read    \
 old records read\
 odd kinds read  \
+odd parts read  \
 histories       \
 long histories  ";
 
@@ -70,18 +77,20 @@ fn cases_of(group: u64) -> u64 {
         5 => 200,
         6 => 400,
         7 => 10000,
-        8 => 256,
-        9 => 100000,
-        10 => 50000,
-        11 => 10000,
-        12 => 30000,
-        13 => 120000,
-        14 => 49711,
-        15 => 50000,
-        16 => 100000,
+        8 => 60000,
+        9 => 256,
+        10 => 100000,
+        11 => 50000,
+        12 => 10000,
+        13 => 30000,
+        14 => 120000,
+        15 => 49711,
+        16 => 50000,
         17 => 100000,
-        18 => 40000,
-        19 => 20000,
+        18 => 100000,
+        19 => 40000,
+        20 => 40000,
+        21 => 20000,
         _ => 8,
     }
 }
@@ -93,19 +102,21 @@ fn run_case(group: u64, case: u64) -> Verdict {
         5 => calls::long_catch_up(case),
         6 => calls::list(case),
         7 => calls::many_ticks(case),
-        8 => calls::start(case),
-        9 => numbers::read(case),
-        10 => numbers::write(case),
-        11 => numbers::map(case),
-        12 => labels::write(case),
-        13 => labels::read(case),
-        14 => labels::day(case),
-        15 => records::write(case),
-        16 => records::read(case),
-        17 => records::read_old(case),
-        18 => records::read_odd_kind(case),
-        19 => histories::replay(case),
-        20 => histories::long(case),
+        8 => calls::edge_ticks(case),
+        9 => calls::start(case),
+        10 => numbers::read(case),
+        11 => numbers::write(case),
+        12 => numbers::map(case),
+        13 => labels::write(case),
+        14 => labels::read(case),
+        15 => labels::day(case),
+        16 => records::write(case),
+        17 => records::read(case),
+        18 => records::read_old(case),
+        19 => records::read_odd_kind(case),
+        20 => records::read_odd_parts(case),
+        21 => histories::replay(case),
+        22 => histories::long(case),
         _ => calls::event_on_any(case, group),
     }
 }
@@ -166,11 +177,24 @@ fn tell_offsets(offsets: u64) {
     io::print_decimal(STDOUT_FILENO, offsets);
 }
 
-// How many cases were compared, how many of them differ, and the offsets of their lists.
+// Of a group of clocks at an edge.
+fn tell_units(up: u64, down: u64) {
+    if plus(up, down) == 0 {
+        return;
+    }
+    io::write_all(STDOUT_FILENO, b"; decided by whole units, up: ");
+    io::print_decimal(STDOUT_FILENO, up);
+    io::write_all(STDOUT_FILENO, b", down: ");
+    io::print_decimal(STDOUT_FILENO, down);
+}
+
+// How many cases were compared, how many of them differ, the offsets of their lists, and how many whole units decide.
 struct Tally {
     compared: u64,
     differ: u64,
     offsets: u64,
+    up: u64,
+    down: u64,
 }
 
 // The counts after one more case.
@@ -185,6 +209,8 @@ fn noted(group: u64, case: u64, v: Verdict, met: &mut [u64; ANSWERS], t: Tally) 
         compared: plus(t.compared, 1),
         differ: plus(t.differ, pick(v.same, 0, 1)),
         offsets: plus(t.offsets, v.offsets),
+        up: plus(t.up, v.up),
+        down: plus(t.down, v.down),
     }
 }
 
@@ -196,6 +222,8 @@ fn run(group: u64) -> Tally {
         compared: 0,
         differ: 0,
         offsets: 0,
+        up: 0,
+        down: 0,
     };
     let mut i: u64 = 0;
     while i < n {
@@ -205,6 +233,7 @@ fn run(group: u64) -> Tally {
     tell_counts(group, t);
     tell_answers(&met);
     tell_offsets(t.offsets);
+    tell_units(t.up, t.down);
     end_line();
     t
 }
@@ -263,8 +292,19 @@ fn tell_too_few(offsets: u64) {
     end_line();
 }
 
-// The last line. The two agree where every group does, and there were enough offsets.
-fn tell_verdict(compared: &[u64; GROUPS], differ: &[u64; GROUPS], offsets: u64) {
+fn tell_too_few_units(units: u64) {
+    io::write_all(
+        STDOUT_FILENO,
+        b"cross_check: TOO FEW cases decided by whole units, up or down: ",
+    );
+    io::print_decimal(STDOUT_FILENO, units);
+    io::write_all(STDOUT_FILENO, b" of ");
+    io::print_decimal(STDOUT_FILENO, FEWEST_UNITS);
+    end_line();
+}
+
+// The last line. The two agree where every group does, and there were enough offsets, and enough cases that whole units decide.
+fn tell_verdict(compared: &[u64; GROUPS], differ: &[u64; GROUPS], offsets: u64, units: u64) {
     let mut cases: u64 = 0;
     let mut agreeing: u64 = 0;
     let mut k: usize = 0;
@@ -273,9 +313,11 @@ fn tell_verdict(compared: &[u64; GROUPS], differ: &[u64; GROUPS], offsets: u64) 
         agreeing = plus(agreeing, pick(agrees(compared[k], differ[k]), 1, 0));
         k += 1;
     }
-    match pick(agreeing == GROUPS as u64, pick(offsets < FEWEST, 2, 1), 0) {
+    let enough = pick(offsets < FEWEST, 2, pick(units < FEWEST_UNITS, 3, 1));
+    match pick(agreeing == GROUPS as u64, enough, 0) {
         1 => tell_agreement(cases, agreeing),
         2 => tell_too_few(offsets),
+        3 => tell_too_few_units(units),
         _ => tell_differences(compared, differ),
     }
 }
@@ -285,13 +327,17 @@ fn main() {
     let mut compared = [0u64; GROUPS];
     let mut differ = [0u64; GROUPS];
     let mut offsets: u64 = 0;
+    let mut up: u64 = 0;
+    let mut down: u64 = 0;
     let mut k: usize = 0;
     while k < GROUPS {
         let t = run(k as u64);
         compared[k] = t.compared;
         differ[k] = t.differ;
         offsets = plus(offsets, t.offsets);
+        up = plus(up, t.up);
+        down = plus(down, t.down);
         k += 1;
     }
-    tell_verdict(&compared, &differ, offsets);
+    tell_verdict(&compared, &differ, offsets, least(up, down));
 }

@@ -74,18 +74,20 @@ fn mask_of(count: usize) -> u64 {
         11 => 2047,
         12 => 4095,
         13 => 8191,
-        _ => 16383,
+        14 => 16383,
+        15 => 32767,
+        _ => 65535,
     }
 }
 
-// Up to fourteen numbers, one after the other: two, repeated. A list of one is written by the writer of a single number.
+// Up to sixteen numbers, one after the other: two, repeated. A list of one is written by the writer of a single number.
 pub(crate) fn write(case: u64) -> Verdict {
     let a = some_number(case, 350);
     let b = some_number(case, 351);
     let v = draw(case, 343);
     let fill = (v % 256) as u8;
     let room = (v / 256 % 65) as usize;
-    let count = (v / 32768 % 15) as usize;
+    let count = (v / 32768 % 17) as usize;
     let at = some_place(case);
     let mut row = [a; ROW];
     row[1] = b;

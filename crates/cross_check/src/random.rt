@@ -1,13 +1,21 @@
 // Pseudo-random and edge values. Every value follows from a case's number and a number for what is drawn, so that a case can be run again
 // by its number. Signed values are drawn as the numbers that they are mapped to, so that both ends of a range are met.
+use crate::devices::PHASE_MICRO;
 use crate::devices::adjustment_at;
 use crate::devices::farthest;
+use crate::devices::parts;
 use crate::devices::whole_micros;
 use crate::form::ROW;
 use crate::rules::State;
+use crate::rules::times;
+use crate::signed::Signed;
+use crate::signed::least;
+use crate::signed::mapped;
 use crate::signed::minus;
 use crate::signed::pick;
 use crate::signed::plus;
+use crate::signed::sum;
+use crate::signed::unmapped;
 
 const SEED: u64 = 20261115;
 
@@ -106,6 +114,34 @@ pub(crate) fn since(case: u64, flag: u64, limit: u64) -> u64 {
     }
 }
 
+// Parts of a phase unit near or outside its ends: a whole unit up or down, or a part less; what is one of either kind; the ends of 32 bits and
+// just beyond them; or any number that a record can hold.
+pub(crate) fn odd_parts(kind: u64, v: u64) -> u64 {
+    let unit = parts(kind) % 128;
+    let n = v / 8;
+    match v % 8 {
+        0 | 1 => mapped(n % 2 == 0, unit),
+        2 => mapped(n % 2 == 0, minus(unit, 1)),
+        3 => mapped(n % 2 == 0, 15 + n / 2 % 2),
+        4 => mapped(n % 2 == 0, 63 + n / 2 % 2),
+        5 | 6 => minus(4294967297, n % 4),
+        _ => n % 34359738368,
+    }
+}
+
+// Parts of a phase unit: any within it, often near its ends or 0; once in 32 odd ones, which fit 32 bits.
+fn some_parts(case: u64, what: u64, kind: u64) -> u64 {
+    let v = draw(case, what);
+    let n = v / 32;
+    let most = minus(plus(parts(kind), parts(kind)), 2) % 128;
+    match v % 32 {
+        0 => odd_parts(kind, n) % 4294967296,
+        1 | 2 | 3 | 4 => minus(most, n % 2),
+        5 | 6 => n % 3,
+        _ => n % (most + 1),
+    }
+}
+
 // A clock, about half of them sound.
 pub(crate) fn state(case: u64) -> State {
     let mut s = crate::rules::fresh(kind(case));
@@ -121,7 +157,102 @@ pub(crate) fn state(case: u64) -> State {
     s.maximum = near(case, 24, 16000000, 4294967295);
     s.estimated = near(case, 26, 16000000, 4294967295);
     s.status = near(case, 28, 4, 255);
+    s.remainder = some_parts(case, 31, s.kind);
+    s.leftover = some_parts(case, 32, s.kind);
     s
+}
+
+// A clock, and how many ticks it is to make.
+pub(crate) struct Edge {
+    pub(crate) state: State,
+    pub(crate) ticks: u64,
+}
+
+// How many ticks lead to an edge, mostly one.
+fn edge_ticks(v: u64) -> u64 {
+    match v % 8 {
+        0 => 2,
+        1 => 16,
+        2 => 100,
+        3 => 250,
+        _ => 1,
+    }
+}
+
+// What so many ticks make of an adjustment.
+fn made(adjustment: u64, ticks: u64) -> Signed {
+    let a = unmapped(adjustment);
+    let n = a.size % 4294967296;
+    let size = match ticks {
+        2 => n * 2,
+        16 => n * 16,
+        100 => n * 100,
+        250 => n * 250,
+        _ => n,
+    };
+    Signed {
+        negative: a.negative,
+        size: size,
+    }
+}
+
+// Whole microseconds, in units of the phase, that are more than any number of ticks here makes.
+const MICROS_ABOVE: u64 = 16384 * PHASE_MICRO;
+
+// The phase from which that leads to about a whole microsecond, mostly another one than 0: up to so many units as there are ticks before or after
+// it.
+fn edge_phase(total: Signed, ticks: u64, v: u64) -> u64 {
+    let span = ticks % 512;
+    let n = v / 4;
+    let end = Signed {
+        negative: false,
+        size: minus(plus(MICROS_ABOVE, n % (2 * span + 2)), span + 1),
+    };
+    let back = Signed {
+        negative: !total.negative,
+        size: total.size,
+    };
+    let up = sum(end, back).size % PHASE_MICRO;
+    let down = minus(PHASE_MICRO, up) % PHASE_MICRO;
+    pick(
+        total.negative == (v % 4 == 0),
+        mapped(false, up),
+        mapped(true, down),
+    )
+}
+
+// The microseconds from which the last of the ticks comes to about the end of a second.
+fn edge_micros(kind: u64, total: Signed, ticks: u64, v: u64) -> u64 {
+    let carried = total.size / PHASE_MICRO;
+    let from = minus(999998 + v % 4, times(whole_micros(kind), ticks));
+    pick(total.negative, plus(from, carried), minus(from, carried)) % 1000000
+}
+
+// A sound clock, half of them in the last second, that so many ticks bring to about the end of a second and of a microsecond, and to a whole
+// phase unit that has come together, up or down; or just not.
+pub(crate) fn at_edge(case: u64) -> Edge {
+    let v = draw(case, 90);
+    let mut s = crate::rules::fresh(v % 2);
+    let ticks = edge_ticks(v / 2);
+    s.seconds = pick(v / 16 % 2 == 0, 4294967295, second(case, 91));
+    s.left = draw(case, 92) % 4194271233;
+    s.frequency = draw(case, 93) % 3355443201;
+    let ends = plus(farthest(s.kind), farthest(s.kind));
+    s.adjustment = adjustment_at(s.kind, draw(case, 94) % (ends % 4294967296 + 1));
+    let total = made(s.adjustment, ticks);
+    s.phase = edge_phase(total, ticks, draw(case, 95));
+    s.micros = edge_micros(s.kind, total, ticks, v / 32);
+    s.constant = v / 128 % 5;
+    s.status = v / 1024 % 5;
+    let n = draw(case, 96);
+    let some = 1 + pick(s.kind == 0, n / 8 % 15, n / 8 % 63) % 64;
+    let rest = minus(parts(s.kind) % 128 + n / 2 % 4, some + 1);
+    s.leftover = mapped(n % 2 == 0, some);
+    s.remainder = mapped(n % 2 == 0, least(rest, minus(parts(s.kind), 1)));
+    Edge {
+        state: s,
+        ticks: ticks,
+    }
 }
 
 // An argument of 64 bits; once in 64 the largest, which is mapped to -2^63.

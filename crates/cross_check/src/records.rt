@@ -30,7 +30,7 @@ pub(crate) fn write(case: u64) -> Verdict {
     agree(write_record(s, fill, room), refusal, fill, d)
 }
 
-// A clock's record, which is of version 3; once in 16 of any other.
+// A clock's record, which is of version 4; once in 16 of any other.
 fn some_row(case: u64) -> [u64; ROW] {
     let v = draw(case, 511);
     let mut row = row_of(crate::random::state(case));
@@ -38,10 +38,10 @@ fn some_row(case: u64) -> [u64; ROW] {
     row
 }
 
-// A clock's record of version 1, with a second of the earlier update, or of version 2.
+// A clock's record of version 1, with a second of the earlier update, or of version 2 or 3.
 fn some_old_row(case: u64) -> [u64; ROW] {
     let mut row = row_of(crate::random::state(case));
-    row[0] = 1 + case % 2;
+    row[0] = 1 + case % 3;
     let second = crate::random::since(case, row[9], 4294967295);
     row[10] = pick(row[0] == 1, second, row[10]);
     row
@@ -62,7 +62,7 @@ fn bytes_of(row: &[u64; ROW], case: u64) -> Bytes {
     )
 }
 
-// Every field is judged where it stands, a kind that is not there as 0; bytes after the end come last. A refused reading gives the fresh
+// Every field is judged where it stands, one that is not there as 0; bytes after the end come last. A refused reading gives the fresh
 // clock of kind 0.
 fn read_record(bytes: &[u8; 64], end: usize) -> Answer {
     let mut row = [0u64; ROW];
@@ -121,7 +121,7 @@ fn odd_kind(case: u64) -> Bytes {
     match v % 8 {
         0 | 1 => row[1] = no_kind(n),
         2 | 3 => row[1] = minus(1, row[1]),
-        4 => mask = record_mask(1),
+        4 => mask = minus(mask, 2),
         5 => row[0] = 1 + n % 2,
         6 => (),
         _ => row[1] = 128 + row[1] % 128,
@@ -141,4 +141,39 @@ fn odd_kind(case: u64) -> Bytes {
 
 pub(crate) fn read_odd_kind(case: u64) -> Verdict {
     compared(odd_kind(case))
+}
+
+// A clock's record whose parts are odd, or are missing, or stand in an old version, or are cut, or of which one has a form of two bytes: the
+// record ends with the two.
+fn odd_parts(case: u64) -> Bytes {
+    let v = draw(case, 530);
+    let n = v / 8;
+    let mut row = row_of(crate::random::state(case));
+    let mut mask = record_mask(row[0]);
+    match v % 8 {
+        0 | 1 => row[14] = crate::random::odd_parts(row[1], n),
+        2 | 3 => row[15] = crate::random::odd_parts(row[1], n),
+        4 => mask = record_mask(3),
+        5 => row[0] = 3,
+        6 => (),
+        _ => {
+            row[14] = row[14] % 128 + 128 * (n % 2);
+            row[15] = row[15] % 128 + 128 * (1 - n % 2);
+        }
+    }
+    let mut bytes = crate::random::some_bytes(case);
+    let mut end = put_all(&mut bytes, 0, &row, mask);
+    match v % 8 {
+        6 => end = minus(end as u64, 1 + n % 2) as usize,
+        7 => bytes[(end % 64 + 63 - (n % 2) as usize) % 64] = 0,
+        _ => (),
+    }
+    Bytes {
+        bytes: bytes,
+        end: end,
+    }
+}
+
+pub(crate) fn read_odd_parts(case: u64) -> Verdict {
+    compared(odd_parts(case))
 }

@@ -3,7 +3,10 @@
 use crate::devices::PHASE_MICRO;
 use crate::devices::adjustment_at;
 use crate::devices::adjustment_of;
+use crate::devices::in_parts;
 use crate::devices::known;
+use crate::devices::lost;
+use crate::devices::parts;
 use crate::devices::reached;
 use crate::devices::whole_micros;
 use crate::form::ROW;
@@ -18,7 +21,7 @@ use crate::signed::sum;
 use crate::signed::unmapped;
 
 // The table of document 01, in its order; `since` is document 02's number of rollovers since the last offset, in place of its second. Behind
-// it document 02's kind of device.
+// it document 02's kind of device, and the parts of a phase unit that each tick adds and that have come together.
 pub(crate) struct State {
     pub(crate) seconds: u64,
     pub(crate) micros: u64,
@@ -33,6 +36,8 @@ pub(crate) struct State {
     pub(crate) estimated: u64,
     pub(crate) status: u64,
     pub(crate) kind: u64,
+    pub(crate) remainder: u64,
+    pub(crate) leftover: u64,
 }
 
 pub(crate) struct Answer {
@@ -56,6 +61,8 @@ pub(crate) fn fresh(kind: u64) -> State {
         estimated: 16000000,
         status: 4,
         kind: kind,
+        remainder: 0,
+        leftover: 0,
     }
 }
 
@@ -74,7 +81,7 @@ pub(crate) fn begin(kind: u64) -> Answer {
 }
 
 // The version of the records that are written; those before it are still read.
-const WRITTEN: u64 = 3;
+const WRITTEN: u64 = 4;
 
 // The numbers of a state's record.
 pub(crate) fn row_of(s: State) -> [u64; ROW] {
@@ -93,10 +100,12 @@ pub(crate) fn row_of(s: State) -> [u64; ROW] {
         s.maximum,
         s.estimated,
         s.status,
+        s.remainder,
+        s.leftover,
     ]
 }
 
-// The state of a record's numbers. One of version 1 has no earlier update, whatever it says of one.
+// The state of a record's numbers, those that it lacks being 0. One of version 1 has no earlier update, whatever it says of one.
 pub(crate) fn state_of(row: &[u64; ROW]) -> State {
     State {
         seconds: row[2],
@@ -112,17 +121,25 @@ pub(crate) fn state_of(row: &[u64; ROW]) -> State {
         estimated: row[12],
         status: row[13],
         kind: row[1],
+        remainder: row[14],
+        leftover: row[15],
     }
 }
 
-// All numbers of a record as a mask, and all but the kind, at place 1.
-const WHOLE: u64 = 0x3fff;
+// All numbers of a record as a mask; all but the parts, at the places 14 and 15; and of these all but the kind, at place 1.
+const WHOLE: u64 = 0xffff;
 
-const WITHOUT_KIND: u64 = WHOLE - 2;
+const WITHOUT_PARTS: u64 = 0x3fff;
 
-// The numbers that a record of a version has: the kind is there from version 3 on.
+const WITHOUT_KIND: u64 = WITHOUT_PARTS - 2;
+
+// The numbers that a record of a version has: the kind is there from version 3 on, the parts from version 4 on.
 pub(crate) fn record_mask(version: u64) -> u64 {
-    pick(version < 3, WITHOUT_KIND, WHOLE)
+    pick(
+        version < 3,
+        WITHOUT_KIND,
+        pick(version == 3, WITHOUT_PARTS, WHOLE),
+    )
 }
 
 // The largest number at place k of a record. A field from -m to m is mapped to 0 to 2m; the adjustment's range, at place 7, is not of that
@@ -138,6 +155,7 @@ fn most_at(row: &[u64; ROW], k: usize) -> u64 {
         10 => pick(row[9] == 0, 0, pick(row[0] == 1, 4294967295, 1024)),
         11 | 12 => 16000000,
         8 | 13 => 4,
+        14 | 15 => minus(plus(parts(row[1]), parts(row[1])), 2),
         _ => 1,
     }
 }
@@ -180,15 +198,58 @@ fn rolled(s: State) -> State {
     t.since = least(plus(s.since, s.flag), 1024);
     t.left = mapped(left.negative, minus(left.size, share));
     t.adjustment = adjustment_of(s.kind, left.negative, share, s.frequency);
+    t.remainder = lost(s.kind, s.frequency);
     leapt(t)
+}
+
+// What has come together with a tick's remainder, before a whole unit is taken off.
+pub(crate) fn gathered(s: State) -> Signed {
+    sum(unmapped(s.leftover), unmapped(s.remainder))
+}
+
+// Phase and leftover after a tick as one number of parts: none of adjustment and remainder is lost, whichever of the two a part goes to.
+fn exact(s: State) -> Signed {
+    let phase = sum(unmapped(s.phase), unmapped(s.adjustment));
+    sum(in_parts(s.kind, phase), gathered(s))
+}
+
+// The leftover after a tick: less than a unit, on the side where it has come together, and the rest of the exact number whole units.
+fn leftover_of(s: State, total: Signed) -> Signed {
+    let unit = parts(s.kind);
+    let side = gathered(s);
+    let over = total.size % unit;
+    Signed {
+        negative: side.negative,
+        size: pick(
+            side.negative == total.negative,
+            over,
+            minus(unit, over) % unit,
+        ),
+    }
+}
+
+// The phase after a tick, before whole microseconds are taken off.
+fn phase_of(kind: u64, total: Signed, leftover: Signed) -> Signed {
+    let back = Signed {
+        negative: !leftover.negative,
+        size: leftover.size,
+    };
+    let whole = sum(total, back);
+    Signed {
+        negative: whole.negative,
+        size: whole.size / parts(kind),
+    }
 }
 
 // One tick of a sound clock.
 pub(crate) fn tick(s: State) -> Answer {
-    let moved = sum(unmapped(s.phase), unmapped(s.adjustment));
+    let total = exact(s);
+    let leftover = leftover_of(s, total);
+    let moved = phase_of(s.kind, total, leftover);
     let whole = moved.size / PHASE_MICRO;
     let grown = plus(s.micros, whole_micros(s.kind));
     let mut t = s;
+    t.leftover = mapped(leftover.negative, leftover.size);
     t.micros = pick(moved.negative, minus(grown, whole), plus(grown, whole));
     t.phase = mapped(moved.negative, moved.size % PHASE_MICRO);
     match pick(t.micros < 1000000, 0, pick(s.seconds == 4294967295, 1, 2)) {
@@ -214,6 +275,7 @@ fn set(s: State, seconds: u64, micros: u64) -> Answer {
     t.frequency = s.frequency;
     t.constant = s.constant;
     t.adjustment = adjustment_of(s.kind, false, 0, s.frequency);
+    t.remainder = lost(s.kind, s.frequency);
     match pick((4294967295 < seconds) | (999999 < micros), 2, 0) {
         0 => Answer {
             refusal: 0,

@@ -71,9 +71,9 @@ fn main() {
     devices::no_third_kind();
 }
 
-// Saves a clock, then restores it from a damaged copy of its record and from the record itself. No record that is written is longer than 43 bytes.
+// Saves a clock, then restores it from a damaged copy of its record and from the record itself. No record that is written is longer than 45 bytes.
 fn save_and_restore(c: Clock) {
-    let mut bytes = [0u8; 43];
+    let mut bytes = [0u8; 45];
     let saved = record::write(c, &mut bytes);
     let n = saved.length;
     show_refusal(b"saved", saved.refusal);

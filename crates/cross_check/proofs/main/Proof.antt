@@ -5,10 +5,10 @@ use Rattle.cross_check.proofs.main.Statement.{statement}
 use Rattle.cross_check.proofs.main.Tie as tie
 
 abbrev Inv-loop : tie.InvT-loop
-Inv-loop compared₀ differ₀ offsets₀ k₀ compared differ offsets k = k ≤ 21
+Inv-loop compared₀ differ₀ offsets₀ up₀ down₀ k₀ compared differ offsets up down k = k ≤ 23
 
 abbrev μ-loop : tie.MeasureT-loop
-μ-loop compared₀ differ₀ offsets₀ k₀ compared differ offsets k = 21 - k
+μ-loop compared₀ differ₀ offsets₀ up₀ down₀ k₀ compared differ offsets up down k = 23 - k
 
 tell-head-requires : tie.Need-tell-head-requires Inv-loop μ-loop
 tell-head-requires c κs = search needs
@@ -34,6 +34,12 @@ array-write-differ c = search needs
 plus-requires : tie.Need-plus-requires Inv-loop μ-loop
 plus-requires c κs = search needs
 
+plus-requires-2 : tie.Need-plus-requires-2 Inv-loop μ-loop
+plus-requires-2 c κs = search needs
+
+plus-requires-3 : tie.Need-plus-requires-3 Inv-loop μ-loop
+plus-requires-3 c κs = search needs
+
 add-k : tie.Need-add-k Inv-loop μ-loop
 add-k c = search needs
 
@@ -42,6 +48,9 @@ loop-less c = search needs
 
 loop-again : tie.Need-loop-again Inv-loop μ-loop
 loop-again c = search needs
+
+least-requires : tie.Need-least-requires Inv-loop μ-loop
+least-requires c κs = search needs
 
 tell-verdict-requires : tie.Need-tell-verdict-requires Inv-loop μ-loop
 tell-verdict-requires c κs = search needs
@@ -63,8 +72,11 @@ main-spec =
     mul-differ
     array-write-differ
     plus-requires
+    plus-requires-2
+    plus-requires-3
     add-k
     loop-less
     loop-again
+    least-requires
     tell-verdict-requires
     returns)

@@ -40,6 +40,9 @@ tell-answers-requires c κs = search needs
 tell-offsets-requires : tie.Need-tell-offsets-requires Inv-loop μ-loop
 tell-offsets-requires c κs = search needs
 
+tell-units-requires : tie.Need-tell-units-requires Inv-loop μ-loop
+tell-units-requires c κs = search needs
+
 end-line-requires : tie.Need-end-line-requires Inv-loop μ-loop
 end-line-requires c κs = search needs
 
@@ -62,5 +65,6 @@ run-spec =
     tell-counts-requires
     tell-answers-requires
     tell-offsets-requires
+    tell-units-requires
     end-line-requires
     returns)

@@ -5,10 +5,10 @@ use Rattle.cross_check.proofs.tell_differences.Statement.{statement}
 use Rattle.cross_check.proofs.tell_differences.Tie as tie
 
 abbrev Inv-loop : tie.InvT-loop
-Inv-loop compared differ k₀ k = k ≤ 21
+Inv-loop compared differ k₀ k = k ≤ 23
 
 abbrev μ-loop : tie.MeasureT-loop
-μ-loop compared differ k₀ k = 21 - k
+μ-loop compared differ k₀ k = 23 - k
 
 slice-aggregate-write-all : tie.Need-slice-aggregate-write-all Inv-loop μ-loop
 slice-aggregate-write-all c = search needs

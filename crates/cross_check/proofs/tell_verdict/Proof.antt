@@ -5,10 +5,10 @@ use Rattle.cross_check.proofs.tell_verdict.Statement.{statement}
 use Rattle.cross_check.proofs.tell_verdict.Tie as tie
 
 abbrev Inv-loop : tie.InvT-loop
-Inv-loop compared differ offsets cases₀ agreeing₀ k₀ cases agreeing k = k ≤ 21
+Inv-loop compared differ offsets units cases₀ agreeing₀ k₀ cases agreeing k = k ≤ 23
 
 abbrev μ-loop : tie.MeasureT-loop
-μ-loop compared differ offsets cases₀ agreeing₀ k₀ cases agreeing k = 21 - k
+μ-loop compared differ offsets units cases₀ agreeing₀ k₀ cases agreeing k = 23 - k
 
 loop-holds : tie.Need-loop-holds Inv-loop μ-loop
 loop-holds c = search needs
@@ -58,11 +58,17 @@ pick-requires-2 c κs = search needs
 pick-requires-3 : tie.Need-pick-requires-3 Inv-loop μ-loop
 pick-requires-3 c κs = search needs
 
+pick-requires-4 : tie.Need-pick-requires-4 Inv-loop μ-loop
+pick-requires-4 c κs = search needs
+
 tell-agreement-requires : tie.Need-tell-agreement-requires Inv-loop μ-loop
 tell-agreement-requires c κs = search needs
 
 tell-too-few-requires : tie.Need-tell-too-few-requires Inv-loop μ-loop
 tell-too-few-requires c κs = search needs
+
+tell-too-few-units-requires : tie.Need-tell-too-few-units-requires Inv-loop μ-loop
+tell-too-few-units-requires c κs = search needs
 
 tell-differences-requires : tie.Need-tell-differences-requires Inv-loop μ-loop
 tell-differences-requires c κs = search needs
@@ -75,6 +81,9 @@ returns-2 c = search needs
 
 returns-3 : tie.Need-returns-3 Inv-loop μ-loop
 returns-3 c = search needs
+
+returns-4 : tie.Need-returns-4 Inv-loop μ-loop
+returns-4 c = search needs
 
 pub tell-verdict-spec : {M : Type 1} → statement M
 tell-verdict-spec =
@@ -98,9 +107,12 @@ tell-verdict-spec =
     loop-again
     pick-requires-2
     pick-requires-3
+    pick-requires-4
     tell-agreement-requires
     tell-too-few-requires
+    tell-too-few-units-requires
     tell-differences-requires
     returns
     returns-2
-    returns-3)
+    returns-3
+    returns-4)

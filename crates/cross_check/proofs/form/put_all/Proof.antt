@@ -5,10 +5,10 @@ use Rattle.cross_check.proofs.form.put_all.Statement.{statement}
 use Rattle.cross_check.proofs.form.put_all.Tie as tie
 
 abbrev Inv-loop : tie.InvT-loop
-Inv-loop bytes₀ at row mask next₀ rest₀ k₀ bytes next rest k = k ≤ 14
+Inv-loop bytes₀ at row mask next₀ rest₀ k₀ bytes next rest k = k ≤ 16
 
 abbrev μ-loop : tie.MeasureT-loop
-μ-loop bytes₀ at row mask next₀ rest₀ k₀ bytes next rest k = 14 - k
+μ-loop bytes₀ at row mask next₀ rest₀ k₀ bytes next rest k = 16 - k
 
 loop-holds : tie.Need-loop-holds Inv-loop μ-loop
 loop-holds c = search needs

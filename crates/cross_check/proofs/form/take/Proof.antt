@@ -5,10 +5,10 @@ use Rattle.cross_check.proofs.form.take.Statement.{statement}
 use Rattle.cross_check.proofs.form.take.Tie as tie
 
 abbrev Inv-loop : tie.InvT-loop
-Inv-loop bytes end mask row₀ c₀ rest₀ k₀ row c rest k = k ≤ 14
+Inv-loop bytes end mask row₀ c₀ rest₀ k₀ row c rest k = k ≤ 16
 
 abbrev μ-loop : tie.MeasureT-loop
-μ-loop bytes end mask row₀ c₀ rest₀ k₀ row c rest k = 14 - k
+μ-loop bytes end mask row₀ c₀ rest₀ k₀ row c rest k = 16 - k
 
 loop-holds : tie.Need-loop-holds Inv-loop μ-loop
 loop-holds c = search needs

@@ -5,10 +5,10 @@ use Rattle.cross_check.proofs.rules.fits.Statement.{statement}
 use Rattle.cross_check.proofs.rules.fits.Tie as tie
 
 abbrev Inv-loop : tie.InvT-loop
-Inv-loop row count ok₀ k₀ ok k = k ≤ 14
+Inv-loop row count ok₀ k₀ ok k = k ≤ 16
 
 abbrev μ-loop : tie.MeasureT-loop
-μ-loop row count ok₀ k₀ ok k = 14 - k
+μ-loop row count ok₀ k₀ ok k = 16 - k
 
 element-copy-out-ok : tie.Need-element-copy-out-ok Inv-loop μ-loop
 element-copy-out-ok c = search needs
