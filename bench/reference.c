@@ -673,7 +673,7 @@ static int record_write(const struct clock *c, uint8_t *buf, size_t len, size_t 
 	return 0;
 }
 
-/* At every place of their own: called, a record takes an eighth more instructions, and with the straight reader four fifths more. */
+/* At every place of their own: called, a record takes a fifth more instructions, and with the straight reader three quarters more. */
 static inline __attribute__((always_inline)) int plain_field(const uint8_t *bytes, size_t len, size_t *at, uint32_t least, uint32_t most, uint32_t *value)
 {
 	uint64_t n;
