@@ -118,7 +118,7 @@ struct heukelvos_clock {
 	uint8_t status;     /* enum heukelvos_status */
 	uint8_t kind;       /* enum heukelvos_kind; no call changes it */
 	int32_t remainder;  /* what the frequency in force leaves of a phase unit each tick; parts, fewer than a unit of the clock's kind has, either way */
-	int32_t leftover;   /* what has come together of it, and is not a whole phase unit yet; the same */
+	int32_t leftover;   /* the remainders added up, less the whole units that went into the phase; the same */
 };
 
 /* The answer of a call that may change the clock, and of heukelvos_fresh: 56 bytes. */

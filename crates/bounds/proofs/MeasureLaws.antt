@@ -42,4 +42,4 @@ unfolding deviceOf measureOf
 measured kind = by-test (eqb kind 1)
 
 pub in-units : EachInUnits
-in-units = ((refl, refl), (refl, refl))
+in-units = ((refl, refl, refl), (refl, refl, refl))

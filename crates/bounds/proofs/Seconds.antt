@@ -26,7 +26,6 @@ use Rattle.bounds.specs.Calls.{next, afterBy, after, ticks, countAmong, 
 use Rattle.bounds.specs.Calls as calls
 use Rattle.bounds.specs.Seconds.{setsOrRolls, OneMoreOrFewer, TicksOfASecond}
 use Rattle.bounds.proofs.Runs.{after-kind, next-kind}
-use Rattle.bounds.proofs.MeasureLaws.{measured}
 use Rattle.bounds.proofs.Moved.{device, Count, count-step, count-start, ticks-least, ticks-most}
 
 -- j ticks since the last rollover
@@ -91,5 +90,5 @@ ticks-of-a-second c between t u v =
     let low = ticks-least last (s .range) _ (s .count) (ends last (tickCase last) v) in
     let high = ticks-most last (s .range) _ (s .count) in
     let same : last .kind ≡ c .kind = after-kind d between ∙ next-kind c call.Tick in
-    let one : OneMoreOrFewer (last .kind) (ticksAmong d between + 1) = record { least = omega (arith, low, measured (last .kind) .parts); most = omega (arith, high, measured (last .kind) .parts) } in
+    let one : OneMoreOrFewer (last .kind) (ticksAmong d between + 1) = record { least = omega (arith, low); most = omega (arith, high) } in
     rw same at one

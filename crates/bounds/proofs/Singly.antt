@@ -1,16 +1,14 @@
 -- A list of events and its ticks made singly: clock, answers and book agree.
 use mathlib.Core.Path.{_≡_, refl, sym, _∙_, ap, subst}
 use mathlib.Core.List.{List, [], _∷_, _++_, append-assoc, append-nil}
-use Prim.Native.Nat.{ℕ}
-use Rattle.state.specs.State.{freshClock}
 use Rattle.state.specs.declared.state.Clock.{Clock}
 use Rattle.event.specs.Event.{answerOf, stepOf}
 use Rattle.event.specs.declared.event.Call as call
 use Rattle.event.specs.declared.event.Event.{Event}
-use Rattle.bounds.specs.Calls.{afterBy, after, clockAfter, clockFrom}
-use Rattle.bounds.specs.Singly.{singleCalls, singlyFrom, singly}
+use Rattle.bounds.specs.Calls.{afterBy, after, clockFrom}
+use Rattle.bounds.specs.Singly.{singleCalls, singlyFrom}
 use Rattle.bounds.specs.Book.{emptyBook, bookFrom}
-use Rattle.bounds.specs.Demand.{bookOf}
+use Rattle.bounds.specs.Demand.{bookOn}
 use Rattle.bounds.specs.MadeSingly.{AnswersAs, InPlace, EveryListMadeSingly}
 use Rattle.bounds.proofs.Runs.{after-append, bookFrom-append}
 use Rattle.bounds.proofs.Ticked.{answers-as, clock-singly}
@@ -42,27 +40,27 @@ module _ (start : Clock) (before : List Event) (e : Event) where
   unfolding afterBy
   clock-then between = after-append stepOf start before (e ∷ between) ∙ after-singly (stepOf (clockFrom start before) e .clock) between
 
-module _ (kind : ℕ) (before : List Event) (e : Event) where
-  singly-last : singly kind (before ++ (e ∷ [])) ≡ singly kind before ++ singleCalls (clockAfter kind before) e
+module _ (start : Clock) (before : List Event) (e : Event) where
+  singly-last : singlyFrom start (before ++ (e ∷ [])) ≡ singlyFrom start before ++ singleCalls (clockFrom start before) e
   unfolding singlyFrom
   singly-last =
-      singly-append (freshClock kind) before (e ∷ [])
-      ∙ ap (λ (ks : List call.Call). singly kind before ++ ks) (append-nil (singleCalls (clockAfter kind before) e))
+      singly-append start before (e ∷ [])
+      ∙ ap (λ (ks : List call.Call). singlyFrom start before ++ ks) (append-nil (singleCalls (clockFrom start before) e))
 
-  pub book-last : bookOf kind (before ++ (e ∷ [])) ≡ bookFrom (clockAfter kind before) (bookOf kind before) (singleCalls (clockAfter kind before) e)
+  pub book-last : bookOn start (before ++ (e ∷ [])) ≡ bookFrom (clockFrom start before) (bookOn start before) (singleCalls (clockFrom start before) e)
   book-last =
-      ap (λ (ks : List call.Call). bookFrom (freshClock kind) emptyBook ks) singly-last
-      ∙ bookFrom-append (freshClock kind) emptyBook (singly kind before) (singleCalls (clockAfter kind before) e)
-      ∙ ap (λ (c : Clock). bookFrom c (bookOf kind before) (singleCalls (clockAfter kind before) e)) (sym (after-singly (freshClock kind) before))
+      ap (λ (ks : List call.Call). bookFrom start emptyBook ks) singly-last
+      ∙ bookFrom-append start emptyBook (singlyFrom start before) (singleCalls (clockFrom start before) e)
+      ∙ ap (λ (c : Clock). bookFrom c (bookOn start before) (singleCalls (clockFrom start before) e)) (sym (after-singly start before))
 
-  in-place : (later : List Event) → InPlace kind before later e
+  in-place : (later : List Event) → InPlace start before later e
   unfolding singlyFrom afterBy
   in-place later =
       record {
-        place = rw (after-append stepOf (freshClock kind) before (e ∷ [])) (singly-append (freshClock kind) before (e ∷ later));
-        answers = subst (λ (c : Clock). AnswersAs (clockAfter kind before) c e) (after-singly (freshClock kind) before) (answers-as (clockAfter kind before) e);
+        place = rw (after-append stepOf start before (e ∷ [])) (singly-append start before (e ∷ later));
+        answers = subst (λ (c : Clock). AnswersAs (clockFrom start before) c e) (after-singly start before) (answers-as (clockFrom start before) e);
         book = book-last;
       }
 
 pub made-singly : EveryListMadeSingly
-made-singly kind events = record { clock = after-singly (freshClock kind) events; each = λ before later e _. in-place kind before e later }
+made-singly start events = record { clock = after-singly start events; each = λ before later e _. in-place start before e later }

@@ -100,7 +100,7 @@ module _ (kind : ℕ) (h : kindRange kind ≡ true) where
   moved-at : (before : List Event) → accepted (clockAfter kind before) Tick ≡ true → rollsOver (clockAfter kind before) ≡ true
       → bookOf kind (before ++ (Call Tick ∷ [])) .moved ≡ bookOf kind before .moved +ℤ bookOf kind before .ownShare
   unfolding bookFrom
-  moved-at before a o = rw (book-last kind before (Call Tick)) (simp (a, o))
+  moved-at before a o = rw (book-last (freshClock kind) before (Call Tick)) (simp (a, o))
 
   at-rollover : (before : List Event) → AtRollover stepOf kind before
   at-rollover before r =

@@ -1,6 +1,7 @@
--- "The book of demand 3": what a list of calls should have come to, by the calls alone. It runs the rules itself, from a fresh
--- clock over the same list, or from the clock that an accepted setting is the first call of. `rules` is the clock of that run: its phase and adjustment only decide which ticks roll over or are
--- refused, and no entry takes them. What a tick is worth, and in which units, is the measure of the clock's kind.
+-- "The book of demand 3": what a list of calls should have come to, by the calls alone. It runs the rules itself over the same list, from a fresh
+-- clock, or from the clock on which the list's first call, a setting, is accepted. `rules` is the clock of that run: its phase, adjustment, remainder
+-- and leftover only decide which ticks roll over or are refused, and no entry takes them. What a tick is worth, and in which units, is the measure of
+-- the clock's kind.
 use Prim.Native.Nat.{ℕ, _+_, _*_}
 use mathlib.Core.Bool.{cond}
 use mathlib.Core.List.{List, [], _∷_}

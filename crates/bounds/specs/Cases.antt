@@ -251,7 +251,8 @@ set s u = call.Setting s (record { 0 = u })
 -- offset or after a setting; the second device by the rows of the first, its kind kept by a setting, and no third; an offset a rollover too
 -- soon, which leaves the interval, and in time, which sets it back; and the remainder: worked out at a rollover, with the frequency's sign, and in
 -- force from the tick after it on; a unit that is just reached, up and down, and one that is not; a unit that c is taken with, and that refusal 3 is
--- judged with; a setting, which clears the leftover; and a remainder of a unit, which is out of range of the first device alone.
+-- judged with; a setting, which clears the leftover and works the remainder out; a leftover and a remainder in force at a rollover; and the ends of both
+-- ranges, on either device.
 abbrev pub markedCases : List Case
 markedCases =
     row []
@@ -352,6 +353,14 @@ markedCases =
     (tickTimes 1 then (refusal 0 ∷ micros is 999999 ∷ phase isℤ pos 268435455 ∷ leftover isℤ pos 15 ∷ []) ∷ [])
     ∷ row (frequency ≔ℤ negℤ (pos 1677721599) ∷ remainder ≔ℤ pos 3 ∷ leftover ≔ℤ pos 7 ∷ [])
     (callOf (set 5 0) then (refusal 0 ∷ adjustment isℤ negℤ (pos 37748735) ∷ remainder isℤ negℤ (pos 15) ∷ leftover isℤ pos 0 ∷ []) ∷ [])
+    ∷ row (micros ≔ 999999 ∷ frequency ≔ℤ pos 35 ∷ remainder ≔ℤ pos 5 ∷ leftover ≔ℤ pos 4 ∷ [])
+    (rollover then (seconds is 1 ∷ micros is 3905 ∷ adjustment isℤ pos 67108866 ∷ remainder isℤ pos 3 ∷ leftover isℤ pos 9 ∷ []) ∷ [])
+    ∷ row (kind ≔ kind1024 ∷ remainder ≔ℤ negℤ (pos 1) ∷ leftover ≔ℤ negℤ (pos 63) ∷ [])
+    (tickTimes 1 then (phase isℤ pos 150994943 ∷ leftover isℤ pos 0 ∷ []) ∷ [])
+    ∷ row (leftover ≔ℤ negℤ (pos 16) ∷ [])
+    (tickTimes 1 then (refusal 1 ∷ leftover isℤ negℤ (pos 16) ∷ []) ∷ [])
+    ∷ row (kind ≔ kind1024 ∷ leftover ≔ℤ pos 64 ∷ [])
+    (tickTimes 1 then (refusal 1 ∷ leftover isℤ pos 64 ∷ []) ∷ [])
     ∷ row (remainder ≔ℤ pos 16 ∷ [])
     (callOf (set 5 0) then (refusal 1 ∷ remainder isℤ pos 16 ∷ []) ∷ [])
     ∷ row (kind ≔ kind1024 ∷ remainder ≔ℤ pos 16 ∷ leftover ≔ℤ negℤ (pos 63) ∷ [])

@@ -39,6 +39,7 @@ toldAfter answers kind events = toldFrom answers (freshClock kind) events
 abbrev pub bookOn : Clock → List Event → Book
 bookOn start events = bookFrom start emptyBook (singlyFrom start events)
 
+-- .. on a fresh clock of a kind
 abbrev pub bookOf : ℕ → List Event → Book
 bookOf kind events = bookOn (freshClock kind) events
 

@@ -18,12 +18,13 @@ use Rattle.bounds.specs.Calls.{clockFrom, accepted}
 use Rattle.bounds.specs.Measure.{measureOf}
 use Rattle.bounds.specs.Demand.{toldFrom, bookOn}
 
--- what a clock holds: seconds and microseconds, the phase, and the leftover, a part of which is a unit of exact time (units of exact time)
+-- what a clock holds: seconds and microseconds, the phase, and the leftover, in parts that are a unit of exact time each (units of exact time)
 abbrev pub heldTime : Clock → ℤ
 heldTime c =
     let m = measureOf (c .kind) in
     pos (m .perMicro * (c .seconds * microsPerSecond + c .micros .0)) +ℤ pos (m .perMicro / phaseUnitsPerMicro) *ℤ c .phase .0 +ℤ c .leftover .0
 
+-- the clock after the events holds the exact time, and its reading is near
 pub record NothingLost (start : Clock) (events : List Event) : Type 0 where
   pub held : heldTime (clockFrom start events) ≡ bookOn start events .exact
   -- less than 1 us

@@ -3,7 +3,6 @@ use Prim.Native.Nat.{ℕ, suc, _≤_, _<_}
 use mathlib.Core.Path.{_≡_}
 use mathlib.Core.Bool.{Bool, true, false, _&&_}
 use mathlib.Core.List.{List, [], _∷_, _++_}
-use Rattle.state.specs.State.{freshClock}
 use Rattle.clock.specs.Tick.{rollsOver}
 use Rattle.state.specs.declared.state.Clock.{Clock}
 use Rattle.event.specs.Event.{answerOf, stepOf}
@@ -11,10 +10,10 @@ use Rattle.event.specs.declared.event.Call.the-variants.{Tick}
 use Rattle.event.specs.declared.event.Event.{Event}
 use Rattle.event.specs.declared.event.Event.the-variants.{Call, CatchUp}
 use Rattle.event.specs.declared.event.Stepped.{Stepped}
-use Rattle.bounds.specs.Calls.{after, clockAfter}
-use Rattle.bounds.specs.Singly.{singleTicks, singleCalls, singlyFrom, singly}
+use Rattle.bounds.specs.Calls.{after, clockFrom}
+use Rattle.bounds.specs.Singly.{singleTicks, singleCalls, singlyFrom}
 use Rattle.bounds.specs.Book.{bookFrom}
-use Rattle.bounds.specs.Demand.{bookOf}
+use Rattle.bounds.specs.Demand.{bookOn}
 
 -- Where the single ticks of c end that are answered with a: "until ceiling, rollover or first refusal". The ceiling comes first: at it no
 -- refusal is looked for. The only refusal that a tick can meet here is 3.
@@ -48,25 +47,26 @@ AnswersAs got c (CatchUp ceiling stop) =
     let a = stepOf got (CatchUp ceiling stop) in
     (a .refusal ≡ 0 → Ticked c ceiling stop a) × ((a .refusal ≡ 0 → ⊥) → Untouched c a)
 
--- the clock after some events on a fresh clock of a kind, their ticks made singly
-abbrev pub singlyAfter : ℕ → List Event → Clock
-singlyAfter kind events = after (freshClock kind) (singly kind events)
+-- the clock after some events on a clock, their ticks made singly
+abbrev pub singlyAfter : Clock → List Event → Clock
+singlyAfter start events = after start (singlyFrom start events)
 
 -- An event of a list, with those before it and those after it.
-pub record InPlace (kind : ℕ) (before later : List Event) (e : Event) : Type 0 where
+pub record InPlace (start : Clock) (before later : List Event) (e : Event) : Type 0 where
   -- its single calls stand in its place
-  pub place : singly kind (before ++ (e ∷ later))
-      ≡ singly kind before ++ (singleCalls (clockAfter kind before) e ++ singlyFrom (clockAfter kind (before ++ (e ∷ []))) later)
+  pub place : singlyFrom start (before ++ (e ∷ later))
+      ≡ singlyFrom start before ++ (singleCalls (clockFrom start before) e ++ singlyFrom (clockFrom start (before ++ (e ∷ []))) later)
   -- it answers as they do
-  pub answers : AnswersAs (clockAfter kind before) (singlyAfter kind before) e
+  pub answers : AnswersAs (clockFrom start before) (singlyAfter start before) e
   -- the book goes on with them from the clock that it gets
-  pub book : bookOf kind (before ++ (e ∷ []))
-      ≡ bookFrom (clockAfter kind before) (bookOf kind before) (singleCalls (clockAfter kind before) e)
+  pub book : bookOn start (before ++ (e ∷ []))
+      ≡ bookFrom (clockFrom start before) (bookOn start before) (singleCalls (clockFrom start before) e)
 
 -- a list of events, and its ticks made singly
-pub record MadeSingly (kind : ℕ) (events : List Event) : Type 0 where
-  pub clock : clockAfter kind events ≡ singlyAfter kind events
-  pub each : (before later : List Event) (e : Event) → events ≡ before ++ (e ∷ later) → InPlace kind before later e
+pub record MadeSingly (start : Clock) (events : List Event) : Type 0 where
+  pub clock : clockFrom start events ≡ singlyAfter start events
+  pub each : (before later : List Event) (e : Event) → events ≡ before ++ (e ∷ later) → InPlace start before later e
 
+-- on any clock: a fresh one, or one that a setting is accepted on
 abbrev pub EveryListMadeSingly : Type 0
-EveryListMadeSingly = (kind : ℕ) (events : List Event) → MadeSingly kind events
+EveryListMadeSingly = (start : Clock) (events : List Event) → MadeSingly start events

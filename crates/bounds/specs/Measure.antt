@@ -4,8 +4,9 @@ use Prim.Native.Nat.{ℕ, _+_, _*_, _/_, _^_}
 use mathlib.Core.Path.{_≡_}
 use mathlib.Core.Bool.{cond}
 use lib.Dec.{eqb}
-use Rattle.state.specs.Units.{offsetUnitsPerMicro, frequencyUnitsPerPpm}
-use Rattle.state.specs.Device.{kind1024}
+use Rattle.state.specs.Units.{offsetUnitsPerMicro, phaseUnitsPerMicro, frequencyUnitsPerPpm}
+use Rattle.state.specs.Device.{recorder256, recorder1024, kind1024}
+use Rattle.state.specs.declared.device.Device.{Device}
 
 pub record Measure : Type 0 where
   -- units of exact time in a microsecond
@@ -35,10 +36,13 @@ perFrequency = 1
 abbrev pub perShare : ℕ
 perShare = 2 ^ 10
 
--- that they are: 1/256 of 2^-24 us is 2^-32 us and 1/256 of 2^-14 us is 2^-22 us; 1/1,024 of them is 2^-34 us and 2^-24 us
-abbrev pub InUnits : Measure → Type 0
-InUnits m =
-    (perFrequency * (frequencyUnitsPerPpm * m .parts) ≡ m .perMicro) × (perShare * (offsetUnitsPerMicro * m .parts) ≡ m .perMicro)
+-- that they are: 1/256 of 2^-24 us is 2^-32 us and 1/256 of 2^-14 us is 2^-22 us; 1/1,024 of them is 2^-34 us and 2^-24 us. And a part of a phase unit,
+-- 1/16 of 2^-28 us or 1/64 of it, is a unit of exact time
+abbrev pub InUnits : Device → Measure → Type 0
+InUnits d m =
+    (perFrequency * (frequencyUnitsPerPpm * m .parts) ≡ m .perMicro)
+    × (perShare * (offsetUnitsPerMicro * m .parts) ≡ m .perMicro)
+    × (phaseUnitsPerMicro * d .divisor ≡ m .perMicro)
 
 abbrev pub EachInUnits : Type 0
-EachInUnits = InUnits measure256 × InUnits measure1024
+EachInUnits = InUnits recorder256 measure256 × InUnits recorder1024 measure1024

@@ -32,7 +32,7 @@ abbrev pub offsetLeft : Clock → ℤ
 offsetLeft c = c .offset .0 -ℤ share c
 
 -- document 02: "The dividing step must now hand back quotient and remainder, the remainder with the dividend's sign": frequency / 16, of the second
--- device frequency / 64 (phase units a tick, and parts of one). The share's and the gain's quotients drop what they leave, as before
+-- device frequency / 64 (phase units a tick, and parts of one). The share's and the gain's quotients drop what they leave
 abbrev pub division : Device → ℤ → Divided
 division d f =
     record {

@@ -24,7 +24,7 @@ use crate::signed::plus;
 
 // The refusal that the second implementation gave, and whether the first gave the same answer; of a list, how many offsets it accepted on a
 // clock with an earlier update: neither the first of the list, nor the first after a setting; of a clock at an edge, 1 where whole units that
-// come together decide its answer, up or down.
+// add up decide its answer, up or down.
 pub(crate) struct Verdict {
     pub(crate) refusal: u64,
     pub(crate) same: bool,
@@ -74,7 +74,7 @@ pub(crate) fn long_catch_up(case: u64) -> Verdict {
     compared(s, &catch_up_row(minus(65536, v / 1024 % 2), 0))
 }
 
-// Whether the microseconds that an event of ticks comes to, or its refusal, would be others had no part come together.
+// Whether the microseconds that an event of ticks comes to, or its refusal, would be others had no part been added.
 fn unit_decides(s: State, row: &[u64; ROW]) -> bool {
     let mut without = s;
     without.remainder = 0;

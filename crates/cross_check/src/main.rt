@@ -1,7 +1,7 @@
 // Runs a second implementation of documents 01 and 02 beside the first, over pseudo-random and edge cases, and compares every answer to the last bit.
 // One line for each group says how many cases were compared, how many differ, and how often the second implementation gave each answer:
 // 0 for accepted, else the number of the refusal, of the call or of the tick that ended a catch-up. Of lists it also says how many offsets
-// were accepted where there was an earlier one, and of clocks at an edge in how many cases whole units that come together decide the
+// were accepted where there was an earlier one, and of clocks at an edge in how many cases whole units that add up decide the
 // microseconds or the refusal. The last line is the verdict: it ends in `the two agree` where every group has cases and none of them differs,
 // and there were 1,000 such offsets and as many such cases, up and down; else it begins with `cross_check: DIFFER` and names the other groups,
 // with how many cases differ of how many, or with `cross_check: TOO FEW` and says how many of these there were.

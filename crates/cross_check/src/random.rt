@@ -229,7 +229,7 @@ fn edge_micros(kind: u64, total: Signed, ticks: u64, v: u64) -> u64 {
 }
 
 // A sound clock, half of them in the last second, that so many ticks bring to about the end of a second and of a microsecond, and to a whole
-// phase unit that has come together, up or down; or just not.
+// phase unit that has added up, up or down; or just not.
 pub(crate) fn at_edge(case: u64) -> Edge {
     let v = draw(case, 90);
     let mut s = crate::rules::fresh(v % 2);

@@ -21,7 +21,7 @@ use crate::signed::sum;
 use crate::signed::unmapped;
 
 // The table of document 01, in its order; `since` is document 02's number of rollovers since the last offset, in place of its second. Behind
-// it document 02's kind of device, and the parts of a phase unit that each tick adds and that have come together.
+// it document 02's kind of device, and the parts of a phase unit that each tick adds and that have added up.
 pub(crate) struct State {
     pub(crate) seconds: u64,
     pub(crate) micros: u64,
@@ -202,7 +202,7 @@ fn rolled(s: State) -> State {
     leapt(t)
 }
 
-// What has come together with a tick's remainder, before a whole unit is taken off.
+// What has added up with a tick's remainder, before a whole unit is taken off.
 pub(crate) fn gathered(s: State) -> Signed {
     sum(unmapped(s.leftover), unmapped(s.remainder))
 }
@@ -213,7 +213,7 @@ fn exact(s: State) -> Signed {
     sum(in_parts(s.kind, phase), gathered(s))
 }
 
-// The leftover after a tick: less than a unit, on the side where it has come together, and the rest of the exact number whole units.
+// The leftover after a tick: less than a unit, on the side where it has added up, and the rest of the exact number whole units.
 fn leftover_of(s: State, total: Signed) -> Signed {
     let unit = parts(s.kind);
     let side = gathered(s);

@@ -121,7 +121,7 @@ pub record OfVersion1 (s : List ℕ) (c : Clock) : Type 0 where
   pub parts : WithoutParts c
   pub written : s ≡ recordIn 1 c flag second
 
--- exactly these are read, and what is then written is as from the version 2 record of the clock
+-- exactly these are read, and what is then written is what its version 2 record, without an earlier update, would be written again as
 pub record Version1 : Type 0 where
   pub only : (s : List ℕ) → Bytes s → readingOf s .refusal ≡ 0 → versionOf s ≡ 1 → OfVersion1 s (readingOf s .clock)
   pub always : (s : List ℕ) (c : Clock) → OfVersion1 s c → readingOf s ≡ accepted c

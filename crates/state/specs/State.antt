@@ -1,4 +1,5 @@
--- "The state and its ranges": the table of document 01, field by field, and the fresh clock. Document 02 adds the kind of the device.
+-- "The state and its ranges": the table of document 01, field by field, and the fresh clock. Document 02 has the rollovers since the
+-- earlier update in the place of its second, and adds the kind of the device, the remainder and the leftover.
 use Prim.Native.Nat.{ℕ, _*_, _-_}
 use mathlib.Core.Bool.{Bool, _&&_, _||_}
 use lib.Dec.{leb, eqb}
@@ -107,8 +108,8 @@ errorRange n = leb n greatestError
 abbrev pub statusRange : ℕ → Bool
 statusRange n = leb n statusBad
 
--- document 02: "A unit is 16 parts (64 for kind 1); remainder and leftover lie strictly within plus or minus a unit", on a device; a part is the
--- divisor's share of a phase unit
+-- document 02: "A unit is 16 parts (64 for kind 1); remainder and leftover lie strictly within plus or minus a unit": a phase unit has as many parts as
+-- the device's divisor
 abbrev pub partsRange : Device → ℤ → Bool
 partsRange d z = strictlyWithin (d .divisor) z
 

@@ -26,7 +26,7 @@ use crate::units::OffsetUnits;
 use crate::units::PhaseParts;
 use crate::units::PhaseUnits;
 
-// A clock's state, in the order of document 01's table; document 02's fields follow it in the order of its requests. Any value of the type may be
+// A clock's state, in the order of document 01's table; document 02's other fields follow it in the order of its requests. Any value of the type may be
 // handed in, sound or not.
 #[repr(C)]
 pub struct Clock {
@@ -53,9 +53,9 @@ pub struct Clock {
     pub status: u8,
     // kind of the device: KIND_256 0, KIND_1024 1
     pub kind: u8,
-    // what the frequency in force leaves of a phase unit each tick: the remainder of the division that the adjustment has the quotient of
+    // what each tick adds to the leftover: the remainder of the division of the frequency in force, of which the adjustment has the quotient
     pub remainder: PhaseParts,
-    // what has come together of it, and is not a whole phase unit yet
+    // the remainders added up, less the whole units that went into the phase
     pub leftover: PhaseParts,
 }
 
