@@ -1,6 +1,6 @@
 -- "Marked cases (proved together)", the two edges at the last second, and the interval, the second device, an offset too soon and the kept remainder of
--- document 02: a table with a row for each, and what it means that a row holds. A row starts at a fresh clock of kind 0, or of the kind that it names, but for the fields
--- that it names. Where it says "rollover", ticks are made up to and with the next that rolls over.
+-- document 02: a table with a row for each, and what it means that a row holds. A row starts at a fresh clock of kind 0, or of the kind that it
+-- names, but for the fields that it names. Where it says "rollover", ticks are made up to and with the next that rolls over.
 use Prim.Native.Nat.{ℕ, zero, suc, _+_}
 use mathlib.Core.Path.{_≡_}
 use mathlib.Core.Bool.{Bool, true, _&&_, cond}
@@ -251,8 +251,8 @@ set s u = call.Setting s (record { 0 = u })
 -- offset or after a setting; the second device by the rows of the first, its kind kept by a setting, and no third; an offset a rollover too
 -- soon, which leaves the interval, and in time, which sets it back; and the remainder: worked out at a rollover, with the frequency's sign, and in
 -- force from the tick after it on; a unit that is just reached, up and down, and one that is not; a unit that c is taken with, and that refusal 3 is
--- judged with; a setting, which clears the leftover and works the remainder out; a leftover and a remainder in force at a rollover; and the ends of both
--- ranges, on either device.
+-- judged with; a setting, which clears the leftover and works the remainder out; a leftover and a remainder in force at a rollover; and the ends of
+-- both ranges, on either device.
 abbrev pub markedCases : List Case
 markedCases =
     row []

@@ -70,8 +70,8 @@ fn first_fields_in_range(c: Clock) -> bool
         & ((MIN_FREQUENCY <= c.frequency.0) & (c.frequency.0 <= MAX_FREQUENCY))
 }
 
-// The others, but for those whose range depends on the kind. How far the interval may go follows from the flag, 0 or MAX_INTERVAL: one test in place of two, which
-// every call makes.
+// The others, but for those whose range depends on the kind. How far the interval may go follows from the flag, 0 or MAX_INTERVAL: one test in
+// place of two, which every call makes.
 fn last_fields_in_range(c: Clock) -> bool
     ensures { λ r. ⌜ r ≡ lastFieldsRange c ⌝ }
 {
