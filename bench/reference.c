@@ -47,7 +47,7 @@ struct clock {
 	uint8_t status;
 	uint8_t kind;
 	int32_t remainder; /* parts of a phase unit that each tick leaves */
-	int32_t leftover;  /* those that have come together */
+	int32_t leftover;  /* the remainders added up, less whole units */
 };
 
 /*
