@@ -20,19 +20,18 @@ use Rattle.state.specs.declared.device.Device.{Device}
 use Rattle.state.specs.declared.state.Clock.{Clock}
 use Rattle.state.proofs.DeviceLaws.{divisor-pos}
 use Rattle.state.proofs.Ok.{Parts, Ok}
-use Rattle.clock.specs.Tick.{unitReached, leftoverLeft, carry, phaseLeft, microsGrown, moved}
-use Rattle.clock.specs.Inner.{Within, advanceOf, leftoverSums, unitsReached, leftoverLater, phaseSums, carries, phaseLater, microsLater, jumpOf}
-use Rattle.clock.specs.declared.timer.Advance.{Advance}
+use Rattle.clock.specs.Tick.{unitReached, leftoverLeft, carry, phaseLeft, microsGrown}
+use Rattle.clock.specs.Inner.{Within, advanceOf, movedTo, leftoverSums, unitsReached, leftoverLater, phaseSums, carries, phaseLater, microsLater, jumpOf}
 use Rattle.clock.proofs.UnitLaws.{unit-eq, left-eq, fits-leftover, fits-remainder}
 use Rattle.clock.proofs.TickLaws.{fits-phase, fits-adjustment, grown-eq}
 
 -- the clock j ticks later, where none of them reaches the end of the second
 abbrev pub jumped : ℕ → Clock → Clock
-jumped j c = moved c (jumpOf j c .micros) (jumpOf j c .phase) (jumpOf j c .leftover)
+jumped j c = movedTo c (jumpOf j c)
 
 -- the clock a tick later, where it does not reach the end of the second
 abbrev pub stepped : Clock → Clock
-stepped c = moved c (advanceOf c .micros) (advanceOf c .phase) (advanceOf c .leftover)
+stepped c = movedTo c (advanceOf c)
 
 -- ---- the numbers of a jump
 
@@ -310,7 +309,7 @@ module _ (c : Clock) (k : Ok c) (j : ℕ) (w : Within j c) where
   next-jump = rw (next-micros, next-left, next-leftover)
 
   pub next-jumped : jumped (suc j) c ≡ stepped here
-  next-jumped = ap (λ (a : Advance). moved c (a .micros) (a .phase) (a .leftover)) next-jump
+  next-jumped = ap (movedTo c) next-jump
 
 -- ---- no ticks
 

@@ -6,7 +6,6 @@ use native.Mathlib.Nat.{mul-le-mul-left}
 use native.Mathlib.Omega.{arith}
 use lib.Dec.{eqb}
 use borrow.Author.Tests.{le-leb, lt-leb, eq-eqb, ne-eqb, eqb-true}
-use Rattle.state.specs.Units.{micros}
 use Rattle.state.specs.Device.{deviceOf}
 use Rattle.state.specs.State.{inRange}
 use Rattle.state.specs.Inner.{longestTick}
@@ -14,9 +13,9 @@ use Rattle.state.specs.declared.state.Clock.{Clock}
 use Rattle.state.specs.declared.outcome.Outcome.{Outcome}
 use Rattle.state.proofs.Ok.{Ok, ok, ok-back}
 use Rattle.clock.specs.Rollover.{rolledOver}
-use Rattle.clock.specs.Tick.{moved, advanced, microsGrown, rollsOver, tickOf, tickRefusal, ticked}
+use Rattle.clock.specs.Tick.{advanced, microsGrown, rollsOver, tickOf, tickRefusal, ticked}
 use Rattle.clock.specs.Ticks.{ended, oneMore, ranOf, catchUpRefusal, catchUpOf, ticksOf}
-use Rattle.clock.specs.Inner.{Within, advanceOf, jumpOf, adds, turnWithin, endsWith, TurnOf}
+use Rattle.clock.specs.Inner.{Within, advanceOf, movedTo, lessASecond, jumpOf, adds, turnWithin, endsWith, TurnOf}
 use Rattle.clock.specs.declared.timer.Advance.{Advance}
 use Rattle.clock.specs.declared.run.CaughtUp.{CaughtUp}
 use Rattle.clock.specs.declared.run.Turn.{Turn}
@@ -174,17 +173,17 @@ module _ (n j : ℕ) (c : Clock) (t : inRange c ≡ true) (some : 0 < j) (most :
     rolls-there : rollsOver before ≡ true
     rolls-there = le-leb 1000000 (microsGrown before) (omega (arith, more, ap (λ (x : Advance). x .micros .0) grown))
 
-    pub rest-in-range : inRange (moved c (micros (a .micros .0 - 1000000)) (a .phase) (a .leftover)) ≡ true
+    pub rest-in-range : inRange (movedTo c (lessASecond a)) ≡ true
     rest-in-range =
         let k = ok before before-in-range in
         rw grown (ok-back (advanced before (microsGrown before - 1000000)) (advanced-ok before k (omega (arith, grown-most before k))))
 
     module _ (earlier : c .seconds < 4294967295) where
-      tick-rolls : tickOf before ≡ record { refusal = 0; clock = rolledOver (moved c (micros (a .micros .0 - 1000000)) (a .phase) (a .leftover)) }
+      tick-rolls : tickOf before ≡ record { refusal = 0; clock = rolledOver (movedTo c (lessASecond a)) }
       unfolding tickOf tickRefusal ticked
       tick-rolls = rw grown (simp (before-in-range, rolls-there, ne-eqb (c .seconds) 4294967295 (λ h. omega arith)))
 
-      pub rolled-turn : (next : Clock) → next ≡ rolledOver (moved c (micros (a .micros .0 - 1000000)) (a .phase) (a .leftover))
+      pub rolled-turn : (next : Clock) → next ≡ rolledOver (movedTo c (lessASecond a))
           → TurnOf n c (record { refusal = 0; rolled = true; count = j; clock = next })
       rolled-turn next h =
           let l = roll-turn n (j - 1) (n - j) c t rest-eq w rolls-there (ap (λ (x : Outcome). x .refusal) tick-rolls) in

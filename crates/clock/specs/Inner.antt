@@ -5,7 +5,7 @@ use mathlib.Core.Bool.{Bool, true, false, _&&_, _||_, not, cond}
 use lib.Dec.{eqb}
 use lib.IntN.{ℤ, pos, natAbs, _+ℤ_, _-ℤ_, _*ℤ_}
 use lib.Signed.{quotZ, remZ}
-use Rattle.state.specs.Units.{micros, phaseUnits, phaseParts, offsetUnitsPerMicro, phaseUnitsPerMicro}
+use Rattle.state.specs.Units.{micros, phaseUnits, phaseParts, offsetUnitsPerMicro, phaseUnitsPerMicro, microsPerSecond}
 use Rattle.state.specs.Device.{deviceOf}
 use Rattle.state.specs.State.{greatestOffset, inRange, lastMicro}
 use Rattle.state.specs.Inner.{longestTick}
@@ -38,6 +38,14 @@ reachedOf c = record { units = phaseUnits (unitReached c); leftover = phaseParts
 abbrev pub advanceOf : Clock → Advance
 advanceOf c =
     record { micros = micros (microsGrown c); phase = phaseUnits (phaseLeft c); leftover = phaseParts (leftoverLeft c) }
+
+-- the clock at these
+abbrev pub movedTo : Clock → Advance → Clock
+movedTo c a = moved c (a .micros) (a .phase) (a .leftover)
+
+-- the microseconds of the next second
+abbrev pub lessASecond : Advance → Advance
+lessASecond a = record { micros = micros (a .micros .0 - microsPerSecond); phase = a .phase; leftover = a .leftover }
 
 -- Microseconds, phase and leftover of a clock j ticks later, in one step: between rollovers adjustment and remainder are constant, so that j
 -- ticks add j remainders to the leftover, whose whole units one division carries into the phase; they add j adjustments to the phase, and one
@@ -89,7 +97,7 @@ adds k r = record { refusal = r .refusal; count = k + r .count; «tick_refusal»
 -- a turn of so many ticks, refused or not, that ends within its second at a
 abbrev pub turnWithin : Clock → Advance → ℕ → ℕ → Turn
 turnWithin c a count refusal =
-    record { refusal = refusal; rolled = false; count = count; clock = moved c (a .micros) (a .phase) (a .leftover) }
+    record { refusal = refusal; rolled = false; count = count; clock = movedTo c a }
 
 -- whether a run ends with this turn, before its ceiling
 abbrev pub endsWith : Bool → Turn → Bool

@@ -9,10 +9,11 @@ use crate::jump::jump;
 use crate::jump::jump_length;
 use crate::rollover::rollover;
 use crate::timer::Advance;
+use crate::timer::less_a_second;
+use crate::timer::moved_to;
 use state::Clock;
 use state::LAST_SECOND;
 use state::MICROS_PER_SECOND;
-use state::Micros;
 
 // The answer of many ticks: refusal 0 where the call was accepted, else its number in the table of refusals; how many ticks were
 // accepted; the refusal of the tick that ended them, or 0; and the clock after the accepted ones.
@@ -36,20 +37,11 @@ struct Turn {
 fn turn_within(c: Clock, a: Advance, count: u64, refusal: u8) -> Turn
     ensures { λ r. ⌜ r ≡ turnWithin c a count refusal ⌝ }
 {
-    let us = a.micros;
-    let phase = a.phase;
-    let leftover = a.leftover;
-    let moved = Clock {
-        micros: us,
-        phase: phase,
-        leftover: leftover,
-        ..c
-    };
     Turn {
         refusal: refusal,
         rolled: false,
         count: count,
-        clock: moved,
+        clock: moved_to(c, a),
     }
 }
 
@@ -82,15 +74,7 @@ fn take_turn(c: Clock, most: u64) -> Turn
     if a.micros.0 < MICROS_PER_SECOND {
         return turn_within(c, a, j, 0);
     }
-    let rest = Micros(a.micros.0 - MICROS_PER_SECOND);
-    let phase = a.phase;
-    let leftover = a.leftover;
-    let rolled = rollover(Clock {
-        micros: rest,
-        phase: phase,
-        leftover: leftover,
-        ..c
-    });
+    let rolled = rollover(moved_to(c, less_a_second(a)));
     Turn {
         refusal: 0,
         rolled: true,

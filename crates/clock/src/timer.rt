@@ -1,8 +1,10 @@
 ghost use mathlib.Core.Path.{_≡_};
 ghost use mathlib.Core.Bool.{true};
+ghost use Prim.Native.Nat.{_≤_};
+ghost use Rattle.state.specs.Units.{microsPerSecond};
 ghost use Rattle.state.specs.State.{inRange};
 ghost use Rattle.clock.specs.Tick.{rollsOver, tickOf};
-ghost use Rattle.clock.specs.Inner.{reachedOf, advanceOf};
+ghost use Rattle.clock.specs.Inner.{reachedOf, advanceOf, movedTo, lessASecond};
 use crate::rollover::rollover;
 use state::Clock;
 use state::LAST_SECOND;
@@ -59,6 +61,32 @@ fn advance_of(c: Clock) -> Advance
     }
 }
 
+// The clock with the microseconds, the phase and the leftover that its ticks lead to.
+pub(crate) fn moved_to(c: Clock, a: Advance) -> Clock
+    ensures { λ r. ⌜ r ≡ movedTo c a ⌝ }
+{
+    let us = a.micros;
+    let phase = a.phase;
+    let leftover = a.leftover;
+    Clock {
+        micros: us,
+        phase: phase,
+        leftover: leftover,
+        ..c
+    }
+}
+
+// What a rollover leaves of microseconds that have filled the second.
+pub(crate) fn less_a_second(a: Advance) -> Advance
+    requires { ⌜ microsPerSecond ≤ a .micros .0 ⌝ }
+    ensures { λ r. ⌜ r ≡ lessASecond a ⌝ }
+{
+    Advance {
+        micros: Micros(a.micros.0 - MICROS_PER_SECOND),
+        ..a
+    }
+}
+
 // A tick that reaches the end of its second. Apart from `tick`, so that the ticks within a second stay short.
 fn overflow(c: Clock, a: Advance) -> Outcome
     requires { ⌜ inRange c ≡ true ⌝ }
@@ -72,15 +100,7 @@ fn overflow(c: Clock, a: Advance) -> Outcome
             clock: c,
         };
     }
-    let rest = Micros(a.micros.0 - MICROS_PER_SECOND);
-    let phase = a.phase;
-    let leftover = a.leftover;
-    let rolled = rollover(Clock {
-        micros: rest,
-        phase: phase,
-        leftover: leftover,
-        ..c
-    });
+    let rolled = rollover(moved_to(c, less_a_second(a)));
     Outcome {
         refusal: 0,
         clock: rolled,
@@ -98,19 +118,10 @@ pub fn tick(c: Clock) -> Outcome
         };
     }
     let a = advance_of(c);
-    let us = a.micros;
-    let phase = a.phase;
-    let leftover = a.leftover;
-    if us.0 < MICROS_PER_SECOND {
-        let advanced = Clock {
-            micros: us,
-            phase: phase,
-            leftover: leftover,
-            ..c
-        };
+    if a.micros.0 < MICROS_PER_SECOND {
         return Outcome {
             refusal: 0,
-            clock: advanced,
+            clock: moved_to(c, a),
         };
     }
     overflow(c, a)

@@ -23,17 +23,20 @@ returns c =
 advance-of-requires : tie.Need-advance-of-requires
 advance-of-requires c κs = inside c
 
+moved-to-requires : tie.Need-moved-to-requires
+moved-to-requires c κs = search needs
+
 returns-2 : tie.Need-returns-2
 unfolding tickOf tickRefusal ticked
 returns-2 c =
-    let i = c .before .before .before .before .before .before in
-    let a = i .before .before .before .before .before in
+    let i = c .before in
+    let a = i .before .before in
     let l : rollsOver (a .before .before .before .args .c) ≡ false = rw (a .advance-of .ensures) at (lt-leb _ _ (i .if2 .taken)) in
-    simp (inside (a .before), l, a .advance-of .ensures)
+    simp (inside (a .before), l, c .moved-to .ensures, a .advance-of .ensures)
 
 overflow-requires : tie.Need-overflow-requires
 overflow-requires c κs =
-    let a = c .before .before .before .before .before in
+    let a = c .before .before in
     (inside (a .before), (rw (a .advance-of .ensures) at (le-leb _ _ (c .if2 .left)), a .advance-of .ensures))
 
 returns-3 : tie.Need-returns-3
@@ -42,4 +45,4 @@ returns-3 c = search needs
 pub tick-spec : {M : Type 1} → statement M
 tick-spec =
     tie.close
-    (tie.spec in-range-requires returns advance-of-requires returns-2 overflow-requires returns-3)
+    (tie.spec in-range-requires returns advance-of-requires moved-to-requires returns-2 overflow-requires returns-3)
