@@ -9,5 +9,4 @@ pub mod Seconds
 pub mod Theorem
 pub mod Interval
 pub mod Apart
-pub mod Table
 pub mod ShutOut

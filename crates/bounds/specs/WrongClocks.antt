@@ -20,7 +20,7 @@ use Rattle.event.specs.declared.event.Stepped.{Stepped}
 use Rattle.bounds.specs.Calls.{Answers}
 use Rattle.bounds.specs.Singly.{singleTicks, asEvents}
 use Rattle.bounds.specs.Measure.{measureOf}
-use Rattle.bounds.specs.Cases.{asks, set}
+use Rattle.cases.specs.Cases.{asks, set}
 use Rattle.bounds.specs.Demand.{toldAfter, bookOf, NearExact, ThirdBound}
 
 -- an answer, but for its clock

@@ -6,9 +6,8 @@ use Rattle.clock.specs.Rollover.{rolledOver}
 use Rattle.clock.specs.Tick.{unitIn, ticked, tickRefusal, tickOf}
 use Rattle.clock.specs.Setting.{settingRefusal, settingOf}
 use Rattle.request.specs.Request.{requestRefusal, requested, requestOf}
-use Rattle.bounds.specs.Measure.{measureOf}
-use Rattle.bounds.specs.Cases.{MarkedCases}
+use Rattle.cases.specs.Cases.{MarkedCases}
 
 pub marked-cases : MarkedCases
-unfolding deviceOf measureOf inRange rolledOver unitIn ticked tickRefusal tickOf settingRefusal settingOf requestRefusal requested requestOf
+unfolding deviceOf inRange rolledOver unitIn ticked tickRefusal tickOf settingRefusal settingOf requestRefusal requested requestOf
 marked-cases = refl

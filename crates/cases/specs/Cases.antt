@@ -10,7 +10,7 @@ use lib.IntN.{ℤ, pos, negℤ}
 use lib.Signed.{leZ}
 use Rattle.state.specs.Units.{offsetUnits, phaseUnits, phaseParts, frequencyUnits}
 use Rattle.state.specs.Units.{micros as us}
-use Rattle.state.specs.Device.{kind256, kind1024}
+use Rattle.state.specs.Device.{kind256, kind1024, deviceOf}
 use Rattle.state.specs.State.{freshClock, errorsOf, whole, statusOk, statusIns, statusDel, statusOop}
 use Rattle.clock.specs.Tick.{carry, rollsOver}
 use Rattle.state.specs.declared.state.Clock.{Clock}
@@ -18,8 +18,6 @@ use Rattle.request.specs.Request.{modeBits}
 use Rattle.event.specs.Event.{answerOf}
 use Rattle.event.specs.declared.event.Call.{Call}
 use Rattle.event.specs.declared.event.Call.the-variants as call
-use Rattle.bounds.specs.Calls.{next}
-use Rattle.bounds.specs.Measure.{measureOf}
 
 -- The fields of a clock that a row names: those that count, and those that are signed.
 pub data CountField : Type 0 where
@@ -117,7 +115,7 @@ pub record Seen : Type 0 where
   pub clock : Clock
 
 abbrev pub seen : Clock → Call → Seen
-seen c e = record { got = c; refused = answerOf c e .refusal; clock = next c e }
+seen c e = record { got = c; refused = answerOf c e .refusal; clock = answerOf c e .clock }
 
 -- What a row does: a call; a number of ticks; ticks up to and with the next that rolls over.
 pub data Doing : Type 0 where
@@ -127,18 +125,18 @@ pub data Doing : Type 0 where
 
 abbrev pub tickBy : ℕ → Clock → Seen
 tickBy zero c = seen c call.Tick
-tickBy (suc n) c = tickBy n (next c call.Tick)
+tickBy (suc n) c = tickBy n (answerOf c call.Tick .clock)
 
 -- at most n ticks more; from one rollover to the next there are at most 257, or 1,025
 abbrev pub rollBy : ℕ → Clock → Seen
 rollBy zero c = seen c call.Tick
-rollBy (suc n) c = cond (rollsOver c) (seen c call.Tick) (rollBy n (next c call.Tick))
+rollBy (suc n) c = cond (rollsOver c) (seen c call.Tick) (rollBy n (answerOf c call.Tick .clock))
 
 abbrev pub does : Doing → Clock → Seen
 does (callOf e) c = seen c e
 does (tickTimes zero) c = record { got = c; refused = 0; clock = c }
 does (tickTimes (suc n)) c = tickBy n c
-does rollover c = rollBy (measureOf (c .kind) .parts) c
+does rollover c = rollBy (deviceOf (c .kind) .rate) c
 
 -- a rollover that is to be done is one: its tick is accepted and rolls over
 abbrev pub isDone : Doing → Seen → Bool

@@ -1,0 +1,2 @@
+-- The marked cases: a table, and what it means that each of its rows holds.
+pub mod Cases
