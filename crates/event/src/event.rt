@@ -42,7 +42,7 @@ pub struct Stepped {
 }
 
 // What an event answers that is no accepted reading.
-const NO_READING: Reading = Reading {
+pub const NO_READING: Reading = Reading {
     seconds: 0,
     micros: Micros(0),
     status: TIME_BAD,
