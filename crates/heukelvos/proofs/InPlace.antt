@@ -37,6 +37,7 @@ use denote.Triple.Walked.{Stays, stay-ref, stay-dropped, fitsOf, hasOf, AllGo, g
 use Rattle.state.specs.declared.state.Clock.{Clock}
 use Rattle.state.proofs.state.Clock as T
 use Rattle.state.proofs.state.Clock.Laws as T′
+use Rattle.rig.proofs.Others.{Silent, dropped, fit, had, go}
 
 -- the machine value of a clock, and that it is one
 abbrev pub value : Clock → Val
@@ -48,10 +49,6 @@ IsClock h = Is T.the-row h (value h ∷ [])
 -- it lies in memory
 abbrev cell : Clock → ℕ → ℕ → Fml
 cell h b o = cellAt fullShare (T.the-row .mir) (value h ∷ []) b o
-
--- a struct's machine value, from what is owned of it
-pub is-value : (R : Declared) (R′ : L.Laws R) (r : R .D) (v : Val) → Is (row R) r (v ∷ []) → v ≡ L.val R R′ r
-is-value R R′ r v is = ap only (L.tells R R′ r (v ∷ []) is)
 
 pub either-clock : (y : Bool) (h h′ : Clock) → IsClock h → IsClock h′ → IsClock (cond y h′ h)
 either-clock true h h′ is is′ = is′
@@ -77,14 +74,6 @@ module _ {M : Type 1} {𝓤 : URA M} {H : Heap 𝓤} {A : Atoms 𝓤} {K : Type 
       (‵ (cell h b o) ∷ ‵ (fobor κ q (Body (mem T.the-row) b o γ)) ∷ ‵ (fobs γ u) ∷ ‵ (fauth γ v) ∷ Γ) G
   handed-back t z b o h is = step (λ s. owned t T.the-row (Is T.the-row) (L.makes T.the-type T′.the-plain 𝓤 H A) h (value h ∷ []) is $ move t (1 ∷ 0 ∷ []) $ closes t z T.the-row h (value h ∷ []) b o $ s)
 
-  -- what a by-value call has answered: a struct r at the machine value v, of which its contract says φ
-  pub answered : K → Soaks G → (R : Declared) (P : SProp 𝓤) (Said : R .D → SProp 𝓤) (φ : R .D → Type 0) (v : Val)
-      → ent 𝓤 P (mean 𝓤 H A (later (some (λ (r : R .D). (‵ ftrue ⊛ ‵ (row R .own r (v ∷ []))) ⊛ raw (Said r))))) → ((r : R .D) → ent 𝓤 (Said r) (fact 𝓤 (φ r)))
-      → ((r : R .D) → φ r → Is (row R) r (v ∷ []) → Seq K W Γ G) → Seq K W (raw P ∷ Γ) G
-  answered t z R P Said φ v gives said k =
-      use1 W (later (some (λ (r : R .D). (‵ ftrue ⊛ ‵ (row R .own r (v ∷ []))) ⊛ raw (Said r)))) gives $ await t z $ pick t (λ r.
-      split t $ move t (1 ∷ []) $ use1 W (raw (fact 𝓤 (φ r))) (said r) $ heard t (φ r) (λ e. split t $ drop t $ facts t (row R) (Is (row R)) (shows 𝓤 H A (row R)) r (v ∷ []) (λ is. k r e is)))
-
 module _ {M : Type 1} {𝓤 : URA M} {H : Heap 𝓤} {A : Atoms 𝓤} {K : Type 0} {W : Given 𝓤 H A} {Γ : List (Item 𝓤)} where
   -- h′ is stored in its place where y says so
   pub stored-if : K → {C : Calls 𝓤 H} {Λ : Loops 𝓤 H} {E : Env 𝓤 H} {q : Post 𝓤 H} {test new : Operand} {p : Place} {rest : Code} (b o : ℕ) (y : Bool) (h h′ : Clock) → IsClock h′
@@ -100,28 +89,7 @@ module _ {M : Type 1} {𝓤 : URA M} {H : Heap 𝓤} {A : Atoms 𝓤} {K : Type 
 abbrev pub lent : Slot 1
 lent = mutRefTo (0 ∷ []) tt (plain (λ _. T.the-row))
 
--- of the others nothing is had at the end, and nothing is said of what they are then
-abbrev dropped : (ss : List (Slot 1)) (ks : Kepts ss) → Stays ss ks
-dropped [] ks = tt
-dropped (s ∷ ss) ks = (stay-dropped s (ks .0), dropped ss (ks .1))
-
-abbrev pub Silent : (ss : List (Slot 1)) → Kepts ss → Type 1
-Silent [] ks = Unit {1}
-Silent (s ∷ ss) ks = ((κs : Lfts 1) (x : s .row κs .Denot) (f : Last (s .row κs .exit (ks .0)) x) → left (s .row κs .exit (ks .0)) x f ≡ ftrue) × Silent ss (ks .1)
-
-fit : (κs : Lfts 1) (ss : List (Slot 1)) (ks : Kepts ss) (a : Denots (typesAt ss κs)) (ws : Fins κs ss ks a) → fitsOf κs ss ks (dropped ss ks) a ws
-fit κs [] ks a ws = tt
-fit κs (s ∷ ss) ks a ws = (tt, fit κs ss (ks .1) (a .1) (ws .1))
-
 module _ {M : Type 1} (𝓤 : URA M) (H : Heap 𝓤) (A : Atoms 𝓤) (W : Given 𝓤 H A) where
-  had : (κs : Lfts 1) (ss : List (Slot 1)) (ks : Kepts ss) (a : Denots (typesAt ss κs)) (ws : Fins κs ss ks a) (vss : Valss (typesAt ss κs)) → ent 𝓤 (emp 𝓤) (sem 𝓤 H A (hasOf κs ss ks (dropped ss ks) a ws vss))
-  had κs [] ks a ws vss = id⊢ 𝓤 (emp 𝓤)
-  had κs (s ∷ ss) ks a ws vss = via 𝓤 (sem 𝓤 H A (hasOf κs ss (ks .1) (dropped ss (ks .1)) (a .1) (ws .1) (vss .1))) (had κs ss (ks .1) (a .1) (ws .1) (vss .1)) (emp∗ 𝓤 _)
-
-  go : (ss : List (Slot 1)) (ks : Kepts ss) → Silent ss ks → AllGo 𝓤 H A W 1 ss ks (dropped ss ks)
-  go [] ks q = tt
-  go (s ∷ ss) ks q = (goes-dropped 𝓤 H A W 1 s (ks .0) (q .0), go ss (ks .1) (q .1))
-
   module _ (ss : List (Slot 1)) (ks : Kepts ss) (Q : RattleType) where
     abbrev pub lentTo : Ended
     lentTo = record { signature = record { lifetimes = 1; outlives = []; params = lent ∷ ss; result = plain (λ _. Q) }; kept = (yes, ks) }
@@ -144,7 +112,7 @@ module _ {M : Type 1} (𝓤 : URA M) (H : Heap 𝓤) (A : Atoms 𝓤) (W : Given
           qed W (‵ (fobs γ (T.the-row .coded .code h′)) ∷ ‵ (fbor κ (Body (mem T.the-row) b o γ)) ∷ ‵ (flft κ q) ∷ []) ∵
           suffices ! _ (ends-at 𝓤 H A lentTo stays c W (((κ, tt), (q, tt), tt, x, (vptr b o ∷ [], us)), g) v r (h′, ws) (tt, fit (κ, tt) ss ks ys ws)) $
           feqI ! (List Val) (vptr b o ∷ []) (vptr b o ∷ []) refl $ fjoin3 ! $
-          use0 W (‵ (hasOf (κ, tt) ss ks (dropped ss ks) ys ws us)) (had (κ, tt) ss ks ys ws us) $ move ! (1 ∷ 0 ∷ []) $ fjoin ! $
+          use0 W (‵ (hasOf (κ, tt) ss ks (dropped ss ks) ys ws us)) (had 𝓤 H A (κ, tt) ss ks ys ws us) $ move ! (1 ∷ 0 ∷ []) $ fjoin ! $
           use0 W (‵ (Q .own r (v ∷ []))) owned-answer $ move ! (1 ∷ 0 ∷ []) $ join ! $
           use0 W (‵ ftrue) (id⊢ 𝓤 (emp 𝓤)) $ move ! (2 ∷ 0 ∷ []) $ join ! $ join ! $
           use0 W (raw (c (κ, tt) x .ensures g r (atExit lentTo (κ, tt) x (h′, ws)))) said $ move ! (1 ∷ 0 ∷ []) $ done !
@@ -157,6 +125,6 @@ module _ {M : Type 1} (𝓤 : URA M) (H : Heap 𝓤) (A : Atoms 𝓤) (W : Given
         (WpFn 𝓤 H (𝓣 .C) (𝓣 .Λ) code (flat (typesAt (lent ∷ ss) (κ, tt)) (vptr b o ∷ [], valss (typesAt ss (κ, tt)) (sp (κ, tt)) ys)) (Left c κ q b o γ h ys (valss (typesAt ss (κ, tt)) (sp (κ, tt)) ys) g)))
         → Meets 𝓤 H A (lentTo .signature) (WpFn 𝓤 H (𝓣 .C) (𝓣 .Λ) code) (closing 𝓤 H A lentTo c)
     meets c silent 𝓣 code sp tl walk =
-        walk-meets 𝓤 H A lentTo stays W (goes-ref 𝓤 H A W 1 0 tt (plain (λ _. T.the-row)), go ss ks silent) c (WpFn 𝓤 H (𝓣 .C) (𝓣 .Λ) code) (WpFn-mono 𝓤 H (W .laws) 𝓣 code)
+        walk-meets 𝓤 H A lentTo stays W (goes-ref 𝓤 H A W 1 0 tt (plain (λ _. T.the-row)), go 𝓤 H A W ss ks silent) c (WpFn 𝓤 H (𝓣 .C) (𝓣 .Λ) code) (WpFn-mono 𝓤 H (W .laws) 𝓣 code)
         (walked 𝓤 H A lentTo stays c (WpFn 𝓤 H (𝓣 .C) (𝓣 .Λ) code) (λ κs. (ptr-vals, sp κs)) (λ κs. (mut-tells (named 0) (κs .0) T.the-row, tl κs))
         (λ κs qs bounds a g are. walk (κs .0) (qs .0) (a .0 .ptr .0) (a .0 .ptr .1) (a .0 .name) (a .0 .now) (a .1) g (are .1)))

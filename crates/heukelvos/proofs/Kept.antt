@@ -1,41 +1,11 @@
 -- A refused call keeps the clock.
 use mathlib.Core.Path.{_≡_, refl}
-use mathlib.Core.Bool.{Bool, true, false, _&&_, cond, true≢false}
-use Prim.Native.Nat.{ℕ, zero, suc}
+use mathlib.Core.Bool.{false}
+use Prim.Native.Nat.{ℕ}
 use lib.Dec.{eqb}
-use Rattle.clock.specs.Tick.{rollsOver, tickOf}
-use Rattle.clock.specs.Ticks.{catchUpOf, catchUpRefusal, ended, oneMore, ranOf, refusedWith}
 use Rattle.state.specs.declared.state.Clock.{Clock}
-use Rattle.clock.specs.declared.run.CaughtUp.{CaughtUp}
 use Rattle.heukelvos.specs.Lent.{Kept}
 
 -- what was lent is kept, where the clock that is then there is the one that was
 pub kept : (refusal : ℕ) (before after : Clock) → (eqb refusal 0 ≡ false → after ≡ before) → Kept refusal before after
 kept refusal before after same refused = rw (same refused) refl
-
-pub tick-same : (c : Clock) → eqb (tickOf c .refusal) 0 ≡ false → tickOf c .clock ≡ c
-unfolding tickOf
-tick-same c refused = simp refused
-
--- a run is not refused itself
-either : (accepted stops : Bool) (x y z : CaughtUp) → x .refusal ≡ 0 → y .refusal ≡ 0 → z .refusal ≡ 0
-    → cond accepted (oneMore (cond stops x y)) z .refusal ≡ 0
-either true true x y z p q r = p
-either true false x y z p q r = q
-either false stops x y z p q r = r
-
-ran-accepted : (stop : Bool) (n : ℕ) (c : Clock) → ranOf stop n c .refusal ≡ 0
-unfolding ranOf
-ran-accepted stop zero c = refl
-ran-accepted stop (suc n) c =
-    either (eqb (tickOf c .refusal) 0) (stop && rollsOver c) (ended 0 (tickOf c .clock)) (ranOf stop n (tickOf c .clock)) (ended (tickOf c .refusal) c)
-    refl (ran-accepted stop n (tickOf c .clock)) refl
-
-by-refusal : (accepted : Bool) (k : ℕ) (c : Clock) (r : CaughtUp) → r .refusal ≡ 0
-    → eqb (cond accepted r (refusedWith k c) .refusal) 0 ≡ false → cond accepted r (refusedWith k c) .clock ≡ c
-by-refusal true k c r p refused = absurd (true≢false (rw p at refused))
-by-refusal false k c r p refused = refl
-
-pub catch-up-same : (c : Clock) (n : ℕ) (stop : Bool) → eqb (catchUpOf c n stop .refusal) 0 ≡ false → catchUpOf c n stop .clock ≡ c
-unfolding catchUpOf
-catch-up-same c n stop = by-refusal (eqb (catchUpRefusal c n) 0) (catchUpRefusal c n) c (ranOf stop n c) (ran-accepted stop n c)

@@ -13,12 +13,12 @@ use prog.Wp.{Heap, Tables, WpFn}
 use sound.WpLaws.{WpFn-mono}
 use ghost.Atoms.{Atoms, sem}
 use contract.Lifetimes.{Lfts}
-use types.Kit.{Given, Goal, Step, step, Item, ‵, raw, ⋆, _$_, _∵_, !, qed, move, drop, use0, use1, join, fjoin, suffices, done}
+use types.Kit.{Given, Goal, Step, step, Item, ‵, raw, ⋆, _$_, _∵_, !, qed, move, drop, use0, use1, join, fsplit, fjoin, suffices, done}
 use denote.RattleType.{RattleType, Denots, Valss, flat}
 use denote.Laws.{Ises, Are, Spells, Tellss, valss}
 use denote.Exit.{yes}
 use denote.Signature.{Slot, mutSliceOf, plain, typesAt}
-use denote.Slice.{sliceVal, heres, slice-vals, mut-slice-tells, codedHoleys, finally, res-finally}
+use denote.Slice.{sliceVal, MutSlice, heres, slice-vals, mut-slice-tells, codedHoleys, finally, res-finally}
 use denote.Lend.{Held}
 use denote.Triple.Clauses.{Clauses, Ended, atExit, closing}
 use denote.Triple.End.{Kepts, Fins}
@@ -39,6 +39,11 @@ module _ {M : Type 1} {𝓤 : URA M} {H : Heap 𝓤} {A : Atoms 𝓤} {K : Type 
   given-up t κ γ n b o zs = step (λ s.
       use1 W (‵ (fres γ (codedHoleys T.the-row .code (heres T.the-row zs)))) (W .names .obs-res γ (codedHoleys T.the-row .code (heres T.the-row zs))) $
       use1 W (‵ (finally T.the-row γ zs)) (res-finally 𝓤 H A W (named 0) κ T.the-row γ zs) $ move t (1 ∷ 0 ∷ []) $ drop t $ s)
+
+  -- the same, where it was never opened
+  pub given-up-whole : K → (κ : Lft) (γ : GName) (b o : ℕ) (zs : List Clock) (vs : List Val)
+      → Step K W (‵ (finally T.the-row γ zs) ∷ Γ) G (‵ (MutSlice (named 0) κ T.the-row .own (record { ptr = (b, o); name = γ; now = zs }) vs) ∷ Γ) G
+  given-up-whole t κ γ b o zs vs = step (λ s. fsplit t $ drop t $ fsplit t $ given-up t κ γ (length zs) b o zs $ s)
 
 module _ {M : Type 1} (𝓤 : URA M) (H : Heap 𝓤) (A : Atoms 𝓤) (W : Given 𝓤 H A) where
   module _ (ss : List (Slot 1)) (ks : Kepts ss) (Q : RattleType) where

@@ -4,3 +4,4 @@ mod rig;
 pub use rig::Answer;
 pub use rig::MAX_CLOCKS;
 pub use rig::event_at;
+pub use rig::refused_with;

@@ -28,7 +28,8 @@ struct Parted {
     clock: Clock,
 }
 
-fn refused_with(refusal: u8) -> Answer
+// What a call answers that is refused with a number.
+pub fn refused_with(refusal: u8) -> Answer
     ensures { λ r. ⌜ r ≡ refusedWith refusal ⌝ }
 {
     let reading = NO_READING;

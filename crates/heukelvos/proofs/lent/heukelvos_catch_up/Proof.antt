@@ -53,8 +53,10 @@ use Rattle.heukelvos.proofs.lent.caught_up as callee
 use Rattle.heukelvos.proofs.lent.caught_up.Symbol as callee-def
 use Rattle.heukelvos.proofs.lent.caught_up.Symbol.{name as #callee}
 use Rattle.heukelvos.proofs.lent.caught_up.Met as callee-thm
-use Rattle.heukelvos.proofs.Kept.{kept, catch-up-same}
-use Rattle.heukelvos.proofs.InPlace.{value, IsClock, is-value, opened, handed-back, answered, stored-if, either-clock, as-answered, Left, ends, meets}
+use Rattle.event.proofs.Kept.{catch-up-same}
+use Rattle.heukelvos.proofs.Kept.{kept}
+use Rattle.rig.proofs.Answered.{is-value, answered}
+use Rattle.heukelvos.proofs.InPlace.{value, IsClock, opened, handed-back, stored-if, either-clock, as-answered, Left, ends, meets}
 use Rattle.heukelvos.proofs.lent.heukelvos_catch_up.Key.{name as #this}
 use Rattle.heukelvos.proofs.lent.heukelvos_catch_up as f
 use Rattle.heukelvos.proofs.lent.heukelvos_catch_up.Statement as stated

@@ -46,8 +46,10 @@ use Rattle.clock.proofs.tick as tick
 use Rattle.clock.proofs.tick.Symbol as tick-def
 use Rattle.clock.proofs.tick.Symbol.{name as #tick}
 use Rattle.clock.proofs.tick.Met as tick-thm
-use Rattle.heukelvos.proofs.Kept.{kept, tick-same}
-use Rattle.heukelvos.proofs.InPlace.{value, IsClock, is-value, opened, handed-back, answered, stored-if, either-clock, as-answered, Left, ends, meets}
+use Rattle.event.proofs.Kept.{tick-same}
+use Rattle.heukelvos.proofs.Kept.{kept}
+use Rattle.rig.proofs.Answered.{is-value, answered}
+use Rattle.heukelvos.proofs.InPlace.{value, IsClock, opened, handed-back, stored-if, either-clock, as-answered, Left, ends, meets}
 use Rattle.heukelvos.proofs.lent.heukelvos_tick.Key.{name as #this}
 use Rattle.heukelvos.proofs.lent.heukelvos_tick as f
 use Rattle.heukelvos.proofs.lent.heukelvos_tick.Statement as stated

@@ -1,0 +1,16 @@
+-- `heukelvos::rig_event::known_event`: refusal 0, and the event.
+use mathlib.Core.Path.{ap}
+use borrow.Author.Needs.{needs}
+use Rattle.rig.specs.declared.rig.Answer.{Answer}
+use Rattle.heukelvos.specs.declared.rig_event.Decoded.{Decoded}
+use Rattle.heukelvos.proofs.rig_event.known_event.Statement.{statement}
+use Rattle.heukelvos.proofs.rig_event.known_event.Tie as tie
+
+refused-with-requires : tie.Need-refused-with-requires
+refused-with-requires c κs = search needs
+
+returns : tie.Need-returns
+returns c = ap (λ (a : Answer). let d : Decoded = record { answer = a; event = c .before .args .e } in d) (c .refused-with .ensures)
+
+pub known-event-spec : {M : Type 1} → statement M
+known-event-spec = tie.close (tie.spec refused-with-requires returns)
