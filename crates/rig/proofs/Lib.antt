@@ -1,3 +1,5 @@
 pub mod Answered
 pub mod LentTable
+pub mod OneClock
 pub mod Others
+pub mod Place

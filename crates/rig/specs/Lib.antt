@@ -1,1 +1,2 @@
+pub mod OneClock
 pub mod Rig
