@@ -10,8 +10,8 @@
  *
  * Every call takes any values: a clock that is not sound, or an argument out of its range, gets its refusal number, and nothing is changed.
  * The lowest number that applies is given. What C itself must see to:
- *   - a pointer is not null, and points to a whole object, aligned as its type (for a label, to `length` bytes), that nothing else reads or
- *     writes until the call returns;
+ *   - a pointer is not null, and points to a whole object, aligned as its type (for a label, to `length` bytes; for a rig, to `clocks` clocks), that nothing
+ *     else reads or writes until the call returns;
  *   - a handler that ticks a clock is held off while the same clock is used elsewhere: around a call that it is lent to; by value, from the
  *     copy of the clock that goes in until the answer's clock is stored, or the ticks made in between are lost; for a reading or a label,
  *     while the clock is copied;
@@ -30,7 +30,7 @@
 extern "C" {
 #endif
 
-/* Refusals. Each call says below which of them it can answer; 10 to 13 and 15 are those of the readers, which C has not yet. */
+/* Refusals. Each call says below which of them it can answer; 10, 11, 13 and 15 are those of the readers, which C has not yet. */
 enum heukelvos_refusal {
 	HEUKELVOS_ACCEPTED = 0,
 	HEUKELVOS_REFUSED_STATE = 1,     /* a field of the clock lies outside its range, or a number is no kind of device */
@@ -49,7 +49,9 @@ enum heukelvos_refusal {
 	HEUKELVOS_REFUSED_ROOM = 14,     /* a buffer shorter than what is to be written */
 	HEUKELVOS_REFUSED_LABEL = 15,    /* not a label */
 	HEUKELVOS_REFUSED_CEILING = 16,  /* a ceiling above 65,536 ticks */
-	HEUKELVOS_REFUSED_SOON = 17      /* an offset fewer than 64 rollovers after the last accepted one */
+	HEUKELVOS_REFUSED_SOON = 17,     /* an offset fewer than 64 rollovers after the last accepted one */
+	HEUKELVOS_REFUSED_PLACE = 18,    /* a place beyond the table of a rig */
+	HEUKELVOS_REFUSED_TABLE = 19     /* a table of more than eight clocks */
 };
 
 /* Status. TIME_BAD is 4 here, and 5 in today's sys/timex.h, where 4 is TIME_WAIT. */
@@ -77,6 +79,15 @@ enum heukelvos_mode {
 	HEUKELVOS_ADJ_TIMECONST = 32
 };
 
+/* The code of an event on a rig. */
+enum heukelvos_event_code {
+	HEUKELVOS_EVENT_TICK = 0,
+	HEUKELVOS_EVENT_SETTING = 1,
+	HEUKELVOS_EVENT_REQUEST = 2,
+	HEUKELVOS_EVENT_READING = 3,
+	HEUKELVOS_EVENT_CATCH_UP = 4
+};
+
 /* What the units are worth, and the ends of the ranges. */
 #define HEUKELVOS_PHASE_PER_MICRO 268435456    /* phase units in a microsecond */
 #define HEUKELVOS_OFFSET_PER_MICRO 16384       /* offset units in a microsecond */
@@ -97,6 +108,7 @@ enum heukelvos_mode {
 #define HEUKELVOS_MAX_INTERVAL 1024            /* rollovers since the last offset: later ones are not counted */
 #define HEUKELVOS_MAX_ERROR 16000000           /* us, both errors */
 #define HEUKELVOS_MAX_CEILING 65536            /* ticks in one catch-up */
+#define HEUKELVOS_MAX_CLOCKS 8                 /* clocks of a rig's table */
 #define HEUKELVOS_LABEL_SIZE 20                /* bytes of a label */
 
 /*
@@ -170,6 +182,24 @@ struct heukelvos_told {
 	struct heukelvos_reading reading;
 };
 
+/* An event on a rig, 96 bytes: its code, and the numbers of each kind of event. Those of another code are not looked at. */
+struct heukelvos_event {
+	uint64_t code;                    /* enum heukelvos_event_code */
+	uint64_t seconds;                 /* of a setting */
+	uint64_t micros;                  /* of a setting */
+	struct heukelvos_request request; /* of a request */
+	uint64_t ceiling;                 /* of a catch-up */
+	bool stop;                        /* of a catch-up */
+};
+
+/* What it answers, 40 bytes: the clock stays in the table. */
+struct heukelvos_answer {
+	uint8_t refusal;
+	uint64_t count;                   /* of a catch-up how many ticks were accepted, else 0 */
+	uint8_t tick_refusal;             /* of a catch-up that of the tick that ended it, else 0 */
+	struct heukelvos_reading reading; /* of an accepted reading what the clock shows, else zeros and status 4 */
+};
+
 /*
  * The clock lent, and changed in place: for a timer handler.
  *
@@ -183,6 +213,17 @@ struct heukelvos_told {
  */
 uint8_t heukelvos_tick(struct heukelvos_clock *clock);
 struct heukelvos_counted heukelvos_catch_up(struct heukelvos_clock *clock, uint64_t ceiling, bool stop);
+
+/*
+ * A rig: several recorders on one host, their clocks in one table, which is lent.
+ *
+ * heukelvos_event_at: an event on the clock at `place`, from 0, of a table of `clocks`; its answer and what becomes of that clock are those of
+ * the call for the event: heukelvos_tick, heukelvos_set, heukelvos_adjust, heukelvos_read or heukelvos_catch_up. Before any clock is looked
+ * at, refusal 12 for an unknown code, then 19 for a table of more than eight clocks, then 18 for a place beyond it, as is each place of an
+ * empty one; then the refusals of the call. Only the clock at the place is looked at, and only it is written to, and only where the event is
+ * accepted: another may be out of range.
+ */
+struct heukelvos_answer heukelvos_event_at(struct heukelvos_clock *table, size_t clocks, size_t place, struct heukelvos_event event);
 
 /*
  * By value: the clock goes in and comes back in the answer, and the caller's own stays as it is.

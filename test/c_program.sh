@@ -1,5 +1,5 @@
-# c/heukelvos.h and the library for C: the program of c/ is built against both, finds nothing wrong, and ends where the replay of its
-# history ends. The header's numbers are those of the crates and of docs/REFERENCE.md.
+# c/heukelvos.h and the library for C: the programs of c/ are built against both and find nothing wrong; that of a lent clock ends where the
+# replay of its history ends. The header's numbers are those of the crates and of docs/REFERENCE.md.
 # shellcheck shell=sh
 
 library=target/staticlib/libheukelvos.a
@@ -12,7 +12,7 @@ of_header() {
 
 # Every public constant of the crates that is written as a number, the same way.
 of_crates() {
-    cat crates/state/src/*.rt crates/clock/src/*.rt crates/request/src/*.rt | sed -n 's/^pub const \([A-Z0-9_]*\): [a-z0-9]* = \(-\{0,1\}[0-9]*\);$/\1 \2/p'
+    cat crates/state/src/*.rt crates/clock/src/*.rt crates/request/src/*.rt crates/rig/src/*.rt | sed -n 's/^pub const \([A-Z0-9_]*\): [a-z0-9]* = \(-\{0,1\}[0-9]*\);$/\1 \2/p'
 }
 
 same_numbers() {
@@ -43,9 +43,9 @@ plain_cplusplus() {
         g++ -Wall -Wextra -Wpedantic -Werror -fsyntax-only -Ic -x c++ -
 }
 
-built() {
+built() { # PROGRAM
     [ -f "$library" ] || { echo "there is no $library: run 'rt staticlib heukelvos'"; return 1; }
-    gcc -std=c11 -O2 -Wall -Wextra -Wpedantic -Werror -Ic -o "$work/lent_clock" c/lent_clock.c "$library"
+    gcc -std=c11 -O2 -Wall -Wextra -Wpedantic -Werror -Ic -o "$work/$1" "c/$1.c" "$library"
 }
 
 # It keeps nothing between two calls, and calls nothing: the compiler may want memcpy and the like.
@@ -55,10 +55,10 @@ stands_alone() {
     ! grep -E ' [BCDGSbdgs] | U ' "$work/symbols" | grep -vE ' U mem(cpy|move|set)$'
 }
 
-nothing_wrong() {
-    status_of "$work/lent_clock"
+nothing_wrong() { # PROGRAM
+    status_of "$work/$1"
     told=$(grep -c ': as it should be$' "$work/out")
-    [ "$status" -eq 0 ] && [ "$told" -eq "$(grep -c '	check("' c/lent_clock.c)" ] || shown "$told of its checks"
+    [ "$status" -eq 0 ] && [ "$told" -eq "$(grep -c '	check("' "c/$1.c")" ] || shown "$told of its checks"
 }
 
 # A million ticks, then catch-ups, with an inserted second and with the last one: the same lines, and none too few.
@@ -81,8 +81,10 @@ else
     else
         pass_over "the header in C++" "g++ is not on this machine"
     fi
-    tell "the program in C is built" built
     tell "the library stands alone" stands_alone
-    tell "the program in C finds nothing wrong" nothing_wrong
-    tell "the program in C ends as the replay of its history" ends_as_the_replay
+    for program in lent_clock rig; do
+        tell "c/$program.c is built" built "$program"
+        tell "c/$program.c finds nothing wrong" nothing_wrong "$program"
+    done
+    tell "c/lent_clock.c ends as the replay of its history" ends_as_the_replay
 fi

@@ -25,7 +25,7 @@ either true true x y z p q r = p
 either true false x y z p q r = q
 either false stops x y z p q r = r
 
-ran-accepted : (stop : Bool) (n : ℕ) (c : Clock) → ranOf stop n c .refusal ≡ 0
+pub ran-accepted : (stop : Bool) (n : ℕ) (c : Clock) → ranOf stop n c .refusal ≡ 0
 unfolding ranOf
 ran-accepted stop zero c = refl
 ran-accepted stop (suc n) c =

@@ -9,8 +9,8 @@ use clock::Reading;
 use clock::TIME_BAD;
 use clock::catch_up;
 use clock::read;
+use clock::run_ticks;
 use clock::set;
-use clock::tick;
 use request::Request;
 use request::adjust;
 
@@ -78,11 +78,13 @@ fn step_many(m: CaughtUp) -> Stepped
     }
 }
 
+// A tick is a run of one: `clock::tick` is then left to those who make ticks alone, and is put into the one place of theirs that calls it; with two
+// places it is a call in both, and copies the clock twice.
 fn step_call(c: Clock, call: Call) -> Stepped
     ensures { λ r. ⌜ r ≡ answerOf c call ⌝ }
 {
     match call {
-        Call::Tick => step_with(tick(c)),
+        Call::Tick => step_with(run_ticks(c, 1)),
         Call::Setting(seconds, micros) => step_with(set(c, seconds, micros)),
         Call::Request(r) => step_with(adjust(c, r)),
         Call::Reading => {

@@ -1,0 +1,267 @@
+/*
+ * A program that hangs several recorders on one host, and holds heukelvos_event_at to c/heukelvos.h: a line for each check, and exit status 1
+ * where one fails. test/c_program.sh builds and runs it.
+ *
+ * Every call is compared with the call by value on the one clock, and the rest of the memory around the table byte for byte.
+ */
+#include <stdlib.h>
+#include <string.h>
+#include "clocks.h"
+
+#define SIZE(type, n) _Static_assert(sizeof(struct type) == (n), "size of " #type)
+#define PLACE(type, field, n) _Static_assert(offsetof(struct type, field) == (n), #type "." #field)
+
+SIZE(heukelvos_event, 96);
+PLACE(heukelvos_event, code, 0);
+PLACE(heukelvos_event, seconds, 8);
+PLACE(heukelvos_event, micros, 16);
+PLACE(heukelvos_event, request, 24);
+PLACE(heukelvos_event, ceiling, 80);
+PLACE(heukelvos_event, stop, 88);
+SIZE(heukelvos_answer, 40);
+PLACE(heukelvos_answer, refusal, 0);
+PLACE(heukelvos_answer, count, 8);
+PLACE(heukelvos_answer, tick_refusal, 16);
+PLACE(heukelvos_answer, reading, 20);
+
+typedef struct heukelvos_event Event;
+typedef struct heukelvos_answer Answer;
+
+#define CODES 5
+#define MOST 9 /* clocks of a table: one more than is allowed */
+
+static bool same_answer(Answer a, Answer b)
+{
+	return a.refusal == b.refusal && a.count == b.count && a.tick_refusal == b.tick_refusal && a.reading.seconds == b.reading.seconds
+		&& a.reading.micros == b.reading.micros && a.reading.status == b.reading.status && a.reading.maxerror == b.reading.maxerror
+		&& a.reading.esterror == b.reading.esterror;
+}
+
+static Answer refused_with(uint8_t refusal)
+{
+	Answer a = { 0 };
+	a.refusal = refusal;
+	a.reading.status = HEUKELVOS_TIME_BAD;
+	return a;
+}
+
+static Answer changed(Clock *c, struct heukelvos_outcome o)
+{
+	*c = o.clock;
+	return refused_with(o.refusal);
+}
+
+/* The call for an event on one clock, by value. */
+static Answer alone(Clock *c, Event e)
+{
+	struct heukelvos_catch_up_answer made;
+	struct heukelvos_told told;
+	Answer a = refused_with(0);
+	switch (e.code) {
+	case HEUKELVOS_EVENT_TICK: return changed(c, heukelvos_ticked(*c));
+	case HEUKELVOS_EVENT_SETTING: return changed(c, heukelvos_set(*c, e.seconds, e.micros));
+	case HEUKELVOS_EVENT_REQUEST: return changed(c, heukelvos_adjust(*c, e.request));
+	case HEUKELVOS_EVENT_READING:
+		told = heukelvos_read(*c);
+		a.refusal = told.refusal;
+		a.reading = told.reading;
+		return a;
+	default:
+		made = heukelvos_caught_up(*c, e.ceiling, e.stop);
+		*c = made.clock;
+		a.refusal = made.refusal;
+		a.count = made.count;
+		a.tick_refusal = made.tick_refusal;
+		return a;
+	}
+}
+
+/* What the header says of a table of so many clocks, whichever they are: 0 where the event goes to the clock at the place. */
+static uint8_t judged(size_t clocks, size_t place, Event e)
+{
+	if (e.code >= CODES)
+		return HEUKELVOS_REFUSED_FIELD;
+	if (clocks > HEUKELVOS_MAX_CLOCKS)
+		return HEUKELVOS_REFUSED_TABLE;
+	return place < clocks ? 0 : HEUKELVOS_REFUSED_PLACE;
+}
+
+/* A table with a clock before it and one behind it that no call may touch. */
+struct around {
+	Clock before, table[MOST], behind;
+};
+
+/* The bytes of two of them are the same, but for those of the clock at a place; of no clock where it lies beyond the table. */
+static bool untouched(const struct around *a, const struct around *b, size_t place)
+{
+	struct around left = *b;
+	if (place < MOST)
+		left.table[place] = a->table[place];
+	return memcmp(a, &left, sizeof left) == 0;
+}
+
+static bool wrong(const char *what, size_t clocks, size_t place, Event e, Answer a, Answer wanted)
+{
+	printf("    %s: %zu clocks, place %zu, code %" PRIu64 ": refusal %d, count %" PRIu64 ", tick refusal %d, %" PRIu32 " s %" PRIu32
+	       " us, status %d; wanted %d, %" PRIu64 ", %d, %" PRIu32 " s %" PRIu32 " us, status %d\n",
+	       what, clocks, place, e.code, a.refusal, a.count, a.tick_refusal, a.reading.seconds, a.reading.micros, a.reading.status,
+	       wanted.refusal, wanted.count, wanted.tick_refusal, wanted.reading.seconds, wanted.reading.micros, wanted.reading.status);
+	return false;
+}
+
+/* One call: its answer, the clock at its place, and everything else. A refused call writes to no byte. */
+static bool as_alone(struct around *now, size_t clocks, size_t place, Event e)
+{
+	struct around was = *now;
+	uint8_t refusal = judged(clocks, place, e);
+	Clock c = place < MOST ? was.table[place] : was.before;
+	Answer wanted = refusal ? refused_with(refusal) : alone(&c, e);
+	Answer a = heukelvos_event_at(now->table, clocks, place, e);
+	if (!same_answer(a, wanted))
+		return wrong("answer", clocks, place, e, a, wanted);
+	if (!untouched(&was, now, a.refusal ? MOST : place))
+		return wrong("another clock", clocks, place, e, a, wanted);
+	if (!refusal && !same(now->table[place], c))
+		return show("the table's", now->table[place]), show("by value", c), wrong("the clock", clocks, place, e, a, wanted);
+	return true;
+}
+
+/* Every byte of the memory has a value, those between two fields too, which only a write can change. */
+static void fill(struct around *a, Clock (*some)(void))
+{
+	memset(a, 0xa5, sizeof *a);
+	Clock *all = &a->before;
+	for (int n = 0; n < MOST + 2; n++) {
+		Clock c = some();
+		Clock *to = all + n;
+		to->seconds = c.seconds, to->micros = c.micros, to->phase = c.phase, to->offset = c.offset, to->frequency = c.frequency;
+		to->adjustment = c.adjustment, to->constant = c.constant, to->updated = c.updated, to->interval = c.interval;
+		to->maxerror = c.maxerror, to->esterror = c.esterror, to->status = c.status, to->kind = c.kind;
+		to->remainder = c.remainder, to->leftover = c.leftover;
+	}
+}
+
+static Clock some_sound(void) { return sound(draw(KINDS), draw(CLOCKS)); }
+static Clock some_unsound(void) { return unsound(draw(KINDS), draw(FAULTS)); }
+static Clock some_of_both(void) { return draw(2) ? some_sound() : some_unsound(); }
+
+/* Events of a code: accepted ones, ones that a clock of any state refuses, and numbers of another code that must not be looked at. */
+static Event some_event(uint64_t code)
+{
+	Event e;
+	memset(&e, 0xff, sizeof e);
+	e.stop = draw(2);
+	e.code = code;
+	if (code == HEUKELVOS_EVENT_SETTING) {
+		e.seconds = draw(4) ? draw(UINT64_C(1) << 32) : draw(UINT64_C(1) << 40);
+		e.micros = draw(4) ? draw(1000000) : draw(1 << 21);
+	} else if (code == HEUKELVOS_EVENT_REQUEST) {
+		e.request.mode = draw(72);
+		e.request.offset = (int64_t)draw(300000) - 150000;
+		e.request.frequency = (int64_t)draw(UINT64_C(4) * HEUKELVOS_MAX_FREQUENCY) - INT64_C(2) * HEUKELVOS_MAX_FREQUENCY;
+		e.request.maxerror = draw(20000000);
+		e.request.esterror = draw(20000000);
+		e.request.status = draw(6);
+		e.request.constant = draw(6);
+	} else if (code == HEUKELVOS_EVENT_CATCH_UP) {
+		e.ceiling = draw(8) ? draw(3000) : draw(70000);
+	}
+	return e;
+}
+
+/* Tables of 0 to 9 clocks; every place of them, the first ones beyond, and some whose low 8, 16 or 32 bits are those of a place within. */
+static bool tables(Clock (*some)(void))
+{
+	static const size_t far[] = { 10, 255, 256, 65536, UINT64_C(0x100000000), UINT64_C(0x100000001), SIZE_MAX - 1, SIZE_MAX };
+	static struct around a;
+	for (size_t clocks = 0; clocks <= MOST; clocks++)
+		for (size_t n = 0; n < MOST + 1 + sizeof far / sizeof *far; n++)
+			for (int turn = 0; turn < 8 * CODES; turn++) {
+				fill(&a, some);
+				if (!as_alone(&a, clocks, n <= MOST ? n : far[n - MOST - 1], some_event(turn % CODES)))
+					return false;
+			}
+	return true;
+}
+
+/* A code that stands for no event is refused before the table is looked at, whatever its low bits are. */
+static bool unknown_codes(void)
+{
+	static struct around a;
+	for (size_t clocks = 0; clocks <= MOST; clocks++)
+		for (uint64_t code = CODES; code <= 300; code++) {
+			fill(&a, some_of_both);
+			if (!as_alone(&a, clocks, draw(MOST + 1), some_event(code)))
+				return false;
+		}
+	for (int width = 8; width < 64; width++)
+		for (uint64_t code = 0; code < CODES; code++) {
+			fill(&a, some_sound);
+			if (!as_alone(&a, HEUKELVOS_MAX_CLOCKS, 0, some_event((UINT64_C(1) << width) + code)))
+				return false;
+		}
+	return true;
+}
+
+static bool random_calls(void)
+{
+	static struct around a;
+	for (int n = 0; n < 200000; n++) {
+		if (n % 64 == 0)
+			fill(&a, random_clock);
+		size_t clocks = draw(16) ? draw(HEUKELVOS_MAX_CLOCKS + 1) : draw(MOST + 1);
+		if (!as_alone(&a, clocks, draw(MOST + 1), some_event(draw(64) ? draw(CODES) : draw(20))))
+			return false;
+	}
+	return true;
+}
+
+/* Two tables with the same clock at the place, and any others: the same answer, and the same clock there. */
+static bool named_clock_decides(void)
+{
+	static struct around a, b;
+	for (int n = 0; n < 100000; n++) {
+		fill(&a, random_clock);
+		fill(&b, some_of_both);
+		size_t clocks = draw(MOST + 1), place = draw(MOST + 1);
+		if (place < MOST)
+			b.table[place] = a.table[place];
+		Event e = some_event(draw(CODES));
+		Answer x = heukelvos_event_at(a.table, clocks, place, e), y = heukelvos_event_at(b.table, clocks, place, e);
+		if (!same_answer(x, y) || (place < MOST && !same(a.table[place], b.table[place])))
+			return wrong("two tables", clocks, place, e, x, y);
+	}
+	return true;
+}
+
+/* Eight recorders, each of which begins fresh: their events one among another, and each one's own events on a clock by itself. */
+static bool eight_recorders(void)
+{
+	Clock table[HEUKELVOS_MAX_CLOCKS], own[HEUKELVOS_MAX_CLOCKS];
+	for (int n = 0; n < HEUKELVOS_MAX_CLOCKS; n++)
+		table[n] = own[n] = fresh(n % KINDS);
+	for (int n = 0; n < 400000; n++) {
+		size_t place = draw(HEUKELVOS_MAX_CLOCKS);
+		Event e = some_event(draw(16) ? HEUKELVOS_EVENT_TICK : draw(CODES));
+		Answer wanted = alone(&own[place], e);
+		Answer a = heukelvos_event_at(table, HEUKELVOS_MAX_CLOCKS, place, e);
+		if (!same_answer(a, wanted))
+			return wrong("a recorder", HEUKELVOS_MAX_CLOCKS, place, e, a, wanted);
+	}
+	for (int n = 0; n < HEUKELVOS_MAX_CLOCKS; n++)
+		if (!same(table[n], own[n]))
+			return show("of the rig", table[n]), show("by itself", own[n]), false;
+	return true;
+}
+
+int main(void)
+{
+	check("tables of 0 to 9 sound clocks, every place", tables(some_sound));
+	check("tables of 0 to 9 clocks out of range, every place", tables(some_unsound));
+	check("tables of 0 to 9 clocks of both sorts, every place", tables(some_of_both));
+	check("codes that stand for no event", unknown_codes());
+	check("200,000 calls on tables of random clocks", random_calls());
+	check("the named clock decides, whatever the others are", named_clock_decides());
+	check("eight recorders, and each by itself", eight_recorders());
+	return failed ? EXIT_FAILURE : EXIT_SUCCESS;
+}
