@@ -31,7 +31,7 @@ static __attribute__((noinline)) int called(struct clock *c)
 	return tick(c);
 }
 
-static inline __attribute__((always_inline)) uint64_t ticks_by(int (*one)(struct clock *), int kind, uint64_t count)
+static inline uint64_t ticks_by(int (*one)(struct clock *), int kind, uint64_t count)
 {
 	uint64_t values[64], sum = 0;
 	fill_numbers(values);
@@ -76,7 +76,7 @@ static __attribute__((noinline)) struct heukelvos_answer event_called(struct heu
 	return a;
 }
 
-static inline __attribute__((always_inline)) uint64_t ticks_on_rig(rig_call *one, uint64_t count)
+static inline uint64_t ticks_on_rig(rig_call *one, uint64_t count)
 {
 	uint64_t values[64], sum = 0;
 	fill_numbers(values);
@@ -94,7 +94,7 @@ static inline __attribute__((always_inline)) uint64_t ticks_on_rig(rig_call *one
 	return sum;
 }
 
-static uint64_t ticks_of(const char *word, uint64_t count)
+static inline __attribute__((always_inline)) uint64_t ticks_of(const char *word, uint64_t count)
 {
 	int kind = strstr(word, "-1024") ? KIND_1024 : KIND_256;
 	if (strcmp(word, "tick-on-rig") == 0)

@@ -1,4 +1,5 @@
 ghost use mathlib.Core.Path.{_≡_};
+ghost use Rattle.clock.specs.Reading.{noReading};
 ghost use Rattle.event.specs.Event.{stepWith, stepMany, answerOf, stepOf};
 use clock::AskedMicros;
 use clock::CaughtUp;
@@ -41,14 +42,20 @@ pub struct Stepped {
     pub reading: Reading,
 }
 
-// What an event answers that is no accepted reading.
-pub const NO_READING: Reading = Reading {
+const NO_READING: Reading = Reading {
     seconds: 0,
     micros: Micros(0),
     status: TIME_BAD,
     maxerror: Micros(0),
     esterror: Micros(0),
 };
+
+// What an event answers that is no accepted reading: zeros and status 4.
+pub fn no_reading() -> Reading
+    ensures { λ r. ⌜ r ≡ noReading ⌝ }
+{
+    NO_READING
+}
 
 fn step_with(o: Outcome) -> Stepped
     ensures { λ r. ⌜ r ≡ stepWith o ⌝ }

@@ -2,15 +2,23 @@
 // where the event was accepted; a refused call stores nothing.
 ghost use mathlib.Core.Path.{_≡_};
 ghost use Rattle.event.specs.Event.{stepOf};
-ghost use Rattle.rig.specs.Rig.{answered, answerAt, parted, placeRefusal, refusedWith, tableAt};
+ghost use Rattle.rig.specs.Rig.{answerAt, mostClocks, parted, placeRefusal, refusedWith, tableAt};
 use clock::Clock;
 use clock::Reading;
 use event::Event;
-use event::NO_READING;
+use event::no_reading;
 use event::step;
 
 // The most clocks of a table.
 pub const MAX_CLOCKS: usize = 8;
+
+// The same, as an answer.
+pub fn most_clocks() -> usize
+    ensures { λ r. ⌜ r ≡ mostClocks ⌝ }
+    ensures { λ _. do ⌜ (← ⟦MAX_CLOCKS⟧ .entry) ≡ mostClocks ⌝ }
+{
+    MAX_CLOCKS
+}
 
 // What an event answers beside the clock, which stays in the table: refusal 0 where it was accepted, else its number in the table of
 // refusals; of a catch-up how many ticks were accepted, and the refusal of the tick that ended them, or 0; and of an accepted reading what
@@ -32,7 +40,7 @@ struct Parted {
 pub fn refused_with(refusal: u8) -> Answer
     ensures { λ r. ⌜ r ≡ refusedWith refusal ⌝ }
 {
-    let reading = NO_READING;
+    let reading = no_reading();
     Answer {
         refusal: refusal,
         count: 0,
