@@ -85,8 +85,8 @@ fn step_many(m: CaughtUp) -> Stepped
     }
 }
 
-// A tick is a run of one: `clock::tick` is then left to those who make ticks alone, and is put into the one place of theirs that calls it; with two
-// places it is a call in both, and copies the clock twice.
+// A tick is a run of one, so that `clock::tick` has one caller in the library for C and is inlined there; with two callers it is a call, which
+// copies the clock twice.
 fn step_call(c: Clock, call: Call) -> Stepped
     ensures { λ r. ⌜ r ≡ answerOf c call ⌝ }
 {

@@ -1,2 +1,3 @@
 pub mod InPlace
 pub mod Kept
+pub mod RigEvent

@@ -1,4 +1,5 @@
 -- Document 02, Req 07, for C: the event of a rig's call as a code and numbers.
+use mathlib.Core.Path.{_≡_}
 use mathlib.Core.Bool.{cond}
 use mathlib.Core.List.{List}
 use Prim.Native.Nat.{ℕ}
@@ -8,7 +9,7 @@ use Rattle.state.specs.declared.state.Clock.{Clock}
 use Rattle.event.specs.declared.event.Call.the-variants.{Tick, Setting, Request, Reading}
 use Rattle.event.specs.declared.event.Event.{Event}
 use Rattle.event.specs.declared.event.Event.the-variants.{Call, CatchUp}
-use Rattle.rig.specs.Rig.{refusedWith, answerAt, tableAt}
+use Rattle.rig.specs.Rig.{bareAnswer, answerAt, tableAt}
 use Rattle.rig.specs.declared.rig.Answer.{Answer}
 use Rattle.heukelvos.specs.declared.rig_event.CodedEvent.{CodedEvent}
 use Rattle.heukelvos.specs.declared.rig_event.Decoded.{Decoded}
@@ -17,8 +18,7 @@ use Rattle.heukelvos.specs.declared.rig_event.Decoded.{Decoded}
 abbrev pub codeRefusal : ℕ → ℕ
 codeRefusal code = refuse (ltb 4 code) 12 0
 
--- The event of a code: 0 tick, 1 setting, 2 request, 3 reading, as in a history; 4 catch-up. Of an unknown code nothing is made, and a reading
--- stands here.
+-- The event of a code: 0 tick, 1 setting, 2 request, 3 reading, 4 catch-up. Of an unknown code nothing is made, and a reading stands here.
 abbrev pub eventOf : CodedEvent → Event
 eventOf e =
     cond (eqb (e .code) 0) (Call Tick)
@@ -28,15 +28,26 @@ eventOf e =
 
 -- the event of a known code
 abbrev pub known : Event → Decoded
-known e = record { answer = refusedWith 0; event = e }
+known e = record { answer = bareAnswer 0; event = e }
 
 abbrev pub decodedOf : CodedEvent → Decoded
-decodedOf e = record { answer = refusedWith (codeRefusal (e .code)); event = eventOf e }
+decodedOf e = record { answer = bareAnswer (codeRefusal (e .code)); event = eventOf e }
 
 -- The call's answer and the table after it: 12 comes before the table is looked at; else all is as for the event.
 unfoldable pub codedAnswerAt : List Clock → ℕ → CodedEvent → Answer
 codedAnswerAt table place e =
-    cond (eqb (codeRefusal (e .code)) 0) (answerAt table place (eventOf e)) (refusedWith (codeRefusal (e .code)))
+    cond (eqb (codeRefusal (e .code)) 0) (answerAt table place (eventOf e)) (bareAnswer (codeRefusal (e .code)))
 
 unfoldable pub codedTableAt : List Clock → ℕ → CodedEvent → List Clock
 codedTableAt table place e = cond (eqb (codeRefusal (e .code)) 0) (tableAt table place (eventOf e)) table
+
+-- A call is that on the rig for the event of its code, so that what is said of those is said of it; or nothing.
+pub record CodedCall (table : List Clock) (place : ℕ) (e : CodedEvent) : Type 0 where
+  pub known : codeRefusal (e .code) ≡ 0
+      → (codedAnswerAt table place e ≡ answerAt table place (eventOf e)) × (codedTableAt table place e ≡ tableAt table place (eventOf e))
+  pub unknown : (codeRefusal (e .code) ≡ 0 → ⊥) → (codedAnswerAt table place e ≡ bareAnswer 12) × (codedTableAt table place e ≡ table)
+  -- "A refused call [..] hands back the clock [..] unchanged": of whatever number, and every clock
+  pub kept : (codedAnswerAt table place e .refusal ≡ 0 → ⊥) → codedTableAt table place e ≡ table
+
+abbrev pub EveryCodedCall : Type 0
+EveryCodedCall = (table : List Clock) (place : ℕ) (e : CodedEvent) → CodedCall table place e

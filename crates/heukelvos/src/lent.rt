@@ -34,7 +34,7 @@ struct Parted {
     clock: Clock,
 }
 
-// A catch-up by value, its answer apart from the clock. A function of its own, so that the check walks it.
+// A catch-up by value, its answer apart from the clock; it takes no reference, so that only the lent clock is left to a proof by hand.
 fn caught_up(c: Clock, ceiling: u64, stop: bool) -> Parted
     ensures { λ r. ⌜ r ≡ parted (catchUpOf c ceiling stop) ⌝ }
 {

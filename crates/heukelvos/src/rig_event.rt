@@ -8,7 +8,7 @@ use event::Event;
 use request::Request;
 use rig::Answer;
 use rig::event_at;
-use rig::refused_with;
+use rig::bare_answer;
 
 // The refusal of a code that stands for no event.
 const UNKNOWN: u8 = 12;
@@ -25,7 +25,7 @@ pub struct CodedEvent {
     pub stop: bool,
 }
 
-// What a code stands for: an answer of refusal 0 and the event; or the answer of an unknown code, and an event that is not made.
+// What a code stands for: refusal 0 and the event; or refusal 12, and an event that is not made.
 struct Decoded {
     answer: Answer,
     event: Event,
@@ -34,7 +34,7 @@ struct Decoded {
 fn known_event(e: Event) -> Decoded
     ensures { λ r. ⌜ r ≡ known e ⌝ }
 {
-    let answer = refused_with(0);
+    let answer = bare_answer(0);
     Decoded {
         answer: answer,
         event: e,
@@ -58,7 +58,7 @@ fn decode(e: CodedEvent) -> Decoded
         3 => known_event(Event::Call(Call::Reading)),
         4 => known_event(Event::CatchUp(e.ceiling, e.stop)),
         _ => {
-            let answer = refused_with(UNKNOWN);
+            let answer = bare_answer(UNKNOWN);
             Decoded {
                 answer: answer,
                 event: Event::Call(Call::Reading),
@@ -67,7 +67,7 @@ fn decode(e: CodedEvent) -> Decoded
     }
 }
 
-// The table is a pointer and a number of clocks in C.
+// 12 for an unknown code, before the table is looked at; then as `rig::event_at`. In C the table is a pointer and a number of clocks.
 #[no_mangle]
 pub extern "C" fn heukelvos_event_at(table: &mut [Clock], place: usize, e: CodedEvent) -> Answer
     ensures { λ r. ⌜ (r ≡ codedAnswerAt (now (table .entry)) place e) × (now (table .exit) ≡ codedTableAt (now (table .entry)) place e) ⌝ }

@@ -11,14 +11,14 @@ use Rattle.state.specs.declared.state.Clock.{Clock}
 use Rattle.event.specs.Event.{stepOf}
 use Rattle.event.specs.declared.event.Event.{Event}
 use Rattle.event.proofs.Kept.{step-same}
-use Rattle.rig.specs.Rig.{placeRefusal, clockAt, answered, refusedWith, answerAt, tableAt}
+use Rattle.rig.specs.Rig.{tableRefusal, clockAt, answered, bareAnswer, answerAt, tableAt}
 use Rattle.rig.specs.OneClock.{SameThere, NamedClockDecides, OthersStay, OthersAlwaysStay, RefusedLeavesAll}
 use Rattle.rig.specs.declared.rig.Answer.{Answer}
 use Rattle.rig.proofs.Place.{within}
 
 -- whether the rig passes the event on
 abbrev passed : List Clock → ℕ → Bool
-passed table place = eqb (placeRefusal (length table) place) 0
+passed table place = eqb (tableRefusal (length table) place) 0
 
 -- ---- where it does
 module _ (table : List Clock) (place : ℕ) (e : Event) (t : passed table place ≡ true) where
@@ -35,14 +35,14 @@ module _ (table : List Clock) (place : ℕ) (e : Event) (t : passed table place 
   unfolding tableAt
   table-kept = simp t
 
-  pub answer-refused : answerAt table place e ≡ refusedWith (placeRefusal (length table) place)
+  pub answer-refused : answerAt table place e ≡ bareAnswer (tableRefusal (length table) place)
   unfolding answerAt
   answer-refused = simp t
 
 -- ---- the named clock decides
 module _ (a b : List Clock) (place : ℕ) (e : Event) (long : length a ≡ length b) (same : clockAt a place ≡ clockAt b place) where
   both : (z : Bool) → passed a place ≡ z → passed b place ≡ z
-  both z t = ap (λ (n : ℕ). eqb (placeRefusal n place) 0) (sym long) ∙ t
+  both z t = ap (λ (n : ℕ). eqb (tableRefusal n place) 0) (sym long) ∙ t
 
   by-place : (z : Bool) → passed a place ≡ z → SameThere a b place e
   by-place true t =
@@ -54,7 +54,7 @@ module _ (a b : List Clock) (place : ℕ) (e : Event) (long : length a ≡ lengt
   by-place false t =
       let u = both false t in
       record {
-        answer = answer-refused a place e t ∙ ap (λ (n : ℕ). refusedWith (placeRefusal n place)) long ∙ sym (answer-refused b place e u);
+        answer = answer-refused a place e t ∙ ap (λ (n : ℕ). bareAnswer (tableRefusal n place)) long ∙ sym (answer-refused b place e u);
         next = ap (λ (cs : List Clock). clockAt cs place) (table-kept a place e t) ∙ same ∙ ap (λ (cs : List Clock). clockAt cs place) (sym (table-kept b place e u));
       }
 

@@ -21,10 +21,10 @@ mostClocks = 8
 
 -- "A place beyond the table is refusal 18, a table of more than eight 19; 19 then 18 come before 1": what a table of so many clocks refuses
 -- before any of them is looked at. Places count from 0, so that every place of an empty table is beyond it.
-abbrev pub placeRefusal : ℕ → ℕ → ℕ
-placeRefusal clocks place = refuse (ltb mostClocks clocks) 19 (refuse (leb clocks place) 18 0)
+abbrev pub tableRefusal : ℕ → ℕ → ℕ
+tableRefusal clocks place = refuse (ltb mostClocks clocks) 19 (refuse (leb clocks place) 18 0)
 
--- the clock at a place; beyond the table there is none, and nothing below looks there
+-- the clock at a place; beyond the table a fresh clock stands for none, and no answer depends on it
 abbrev pub clockAt : List Clock → ℕ → Clock
 clockAt table place = getD table place (freshClock kind256)
 
@@ -36,17 +36,18 @@ answered a = record { refusal = a .refusal; count = a .count; «tick_refusal» =
 abbrev pub parted : Stepped → Parted
 parted a = record { answer = answered a; clock = a .clock }
 
--- "unless said, a refused call's other answers are zeros"; a refused reading "gives zeros and status 4"
-abbrev pub refusedWith : ℕ → Answer
-refusedWith n = record { refusal = n; count = 0; «tick_refusal» = 0; reading = noReading }
+-- an answer that has nothing but its refusal: "unless said, a refused call's other answers are zeros"; a refused reading "gives zeros and status 4"
+abbrev pub bareAnswer : ℕ → Answer
+bareAnswer n = record { refusal = n; count = 0; «tick_refusal» = 0; reading = noReading }
 
 -- "the answer is that of the single-clock call [..]; only the named clock is examined"
 unfoldable pub answerAt : List Clock → ℕ → Event → Answer
 answerAt table place e =
-    let refusal = placeRefusal (length table) place in
-    cond (eqb refusal 0) (answered (stepOf (clockAt table place) e)) (refusedWith refusal)
+    let refusal = tableRefusal (length table) place in
+    cond (eqb refusal 0) (answered (stepOf (clockAt table place) e)) (bareAnswer refusal)
 
--- "and every other clock in the table stays the same": the table after it. A refused event hands back the clock that it got.
+-- "and every other clock in the table stays the same": the table after it. Where the event is refused, its clock is the one that it got, so that the
+-- table is the same.
 unfoldable pub tableAt : List Clock → ℕ → Event → List Clock
 tableAt table place e =
-    cond (eqb (placeRefusal (length table) place) 0) (set table place (stepOf (clockAt table place) e .clock)) table
+    cond (eqb (tableRefusal (length table) place) 0) (set table place (stepOf (clockAt table place) e .clock)) table

@@ -3,6 +3,6 @@ mod rig;
 
 pub use rig::Answer;
 pub use rig::MAX_CLOCKS;
+pub use rig::bare_answer;
 pub use rig::event_at;
 pub use rig::most_clocks;
-pub use rig::refused_with;

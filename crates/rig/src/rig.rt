@@ -2,7 +2,7 @@
 // where the event was accepted; a refused call stores nothing.
 ghost use mathlib.Core.Path.{_≡_};
 ghost use Rattle.event.specs.Event.{stepOf};
-ghost use Rattle.rig.specs.Rig.{answerAt, mostClocks, parted, placeRefusal, refusedWith, tableAt};
+ghost use Rattle.rig.specs.Rig.{answerAt, bareAnswer, mostClocks, parted, tableAt, tableRefusal};
 use clock::Clock;
 use clock::Reading;
 use event::Event;
@@ -12,7 +12,7 @@ use event::step;
 // The most clocks of a table.
 pub const MAX_CLOCKS: usize = 8;
 
-// The same, as an answer.
+// For callers that learn it as a value.
 pub fn most_clocks() -> usize
     ensures { λ r. ⌜ r ≡ mostClocks ⌝ }
     ensures { λ _. do ⌜ (← ⟦MAX_CLOCKS⟧ .entry) ≡ mostClocks ⌝ }
@@ -20,9 +20,9 @@ pub fn most_clocks() -> usize
     MAX_CLOCKS
 }
 
-// What an event answers beside the clock, which stays in the table: refusal 0 where it was accepted, else its number in the table of
-// refusals; of a catch-up how many ticks were accepted, and the refusal of the tick that ended them, or 0; and of an accepted reading what
-// the clock shows, else zeros and status 4.
+// What an event answers beside the clock, which stays in the table: refusal 0 where it was accepted, else its number; of a catch-up how many
+// ticks were accepted, and the refusal of the tick that ended them, or 0; and of an accepted reading what the clock shows, else zeros and
+// status 4.
 #[repr(C)]
 pub struct Answer {
     pub refusal: u8,
@@ -36,9 +36,9 @@ struct Parted {
     clock: Clock,
 }
 
-// What a call answers that is refused with a number.
-pub fn refused_with(refusal: u8) -> Answer
-    ensures { λ r. ⌜ r ≡ refusedWith refusal ⌝ }
+// An answer that has nothing but its refusal: of a call that is refused; or 0, of one that is not refused so far.
+pub fn bare_answer(refusal: u8) -> Answer
+    ensures { λ r. ⌜ r ≡ bareAnswer refusal ⌝ }
 {
     let reading = no_reading();
     Answer {
@@ -49,9 +49,9 @@ pub fn refused_with(refusal: u8) -> Answer
     }
 }
 
-// Whether a table of so many clocks has the place: 0, or 19, 18.
-fn place_refusal(clocks: usize, place: usize) -> u8
-    ensures { λ r. ⌜ r ≡ placeRefusal clocks place ⌝ }
+// What a table of so many clocks refuses, whichever they are: 19, 18, or 0.
+fn table_refusal(clocks: usize, place: usize) -> u8
+    ensures { λ r. ⌜ r ≡ tableRefusal clocks place ⌝ }
 {
     if MAX_CLOCKS < clocks {
         return 19;
@@ -59,13 +59,14 @@ fn place_refusal(clocks: usize, place: usize) -> u8
     if clocks <= place { 18 } else { 0 }
 }
 
-fn place_answer(clocks: usize, place: usize) -> Answer
-    ensures { λ r. ⌜ r ≡ refusedWith (placeRefusal clocks place) ⌝ }
+// It takes no reference, so that of the two steps of `event_at` only the table is left to a proof by hand.
+fn table_answer(clocks: usize, place: usize) -> Answer
+    ensures { λ r. ⌜ r ≡ bareAnswer (tableRefusal clocks place) ⌝ }
 {
-    refused_with(place_refusal(clocks, place))
+    bare_answer(table_refusal(clocks, place))
 }
 
-// An event by value, its answer apart from the clock. A function of its own, so that the check walks it.
+// An event by value, its answer apart from the clock; it takes no reference, for the same reason.
 fn parted_step(c: Clock, e: Event) -> Parted
     ensures { λ r. ⌜ r ≡ parted (stepOf c e) ⌝ }
 {
@@ -83,13 +84,13 @@ fn parted_step(c: Clock, e: Event) -> Parted
     }
 }
 
-// An event on the clock at a place of the table.
+// An event on the clock at a place of the table: 19, then 18, before any clock is looked at; then what the event answers on that clock.
 pub fn event_at(table: &mut [Clock], place: usize, e: Event) -> Answer
     ensures { λ r. ⌜ (r ≡ answerAt (now (table .entry)) place e) × (now (table .exit) ≡ tableAt (now (table .entry)) place e) ⌝ }
 {
-    let refused = place_answer(table.len(), place);
-    if refused.refusal != 0 {
-        return refused;
+    let judged = table_answer(table.len(), place);
+    if judged.refusal != 0 {
+        return judged;
     }
     let done = parted_step(table[place], e);
     if done.answer.refusal != 0 {

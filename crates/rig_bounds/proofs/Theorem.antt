@@ -1,99 +1,172 @@
 -- Demand 3 on a rig, from demand 3 of every list: each call is a call on a clock by itself.
-use Prim.Native.Nat.{ℕ, _<_}
+use Prim.Native.Nat.{ℕ, _+_, _*_, _≤_, _<_}
 use mathlib.Core.Path.{_≡_, refl, sym, _∙_, ap, subst}
 use mathlib.Core.Bool.{Bool, true, false, _&&_, cond}
-use mathlib.Core.List.{List, [], _∷_, _++_}
+use mathlib.Core.List.{List, [], _∷_, _++_, append-assoc}
 use lib.Dec.{eqb}
 use lib.ListN.{length}
 use borrow.Author.Tests.{eqb-true, eqb-false}
 use Rattle.integers.proofs.Ranges.{and-true}
+use Rattle.state.specs.Device.{kindRange}
+use Rattle.state.specs.State.{freshClock}
 use Rattle.state.specs.declared.state.Clock.{Clock}
 use Rattle.event.specs.Event.{stepOf}
+use Rattle.event.specs.declared.event.Call.the-variants.{Reading}
 use Rattle.event.specs.declared.event.Event.{Event}
-use Rattle.bounds.specs.Calls.{afterBy, clockFrom}
-use Rattle.bounds.specs.Demand.{FirstBound}
+use Rattle.event.specs.declared.event.Event.the-variants.{Call}
+use Rattle.bounds.specs.Calls.{afterBy, clockFrom, clockAfter, ticksAmong, neitherSetNorInserted}
+use Rattle.bounds.specs.Singly.{singlyFrom}
+use Rattle.bounds.specs.Measure.{measureOf}
+use Rattle.bounds.specs.Demand.{tells, bookOf, NearExact, FirstBound}
 use Rattle.bounds.proofs.Runs.{after-append}
 use Rattle.bounds.proofs.Theorem.{demand3}
-use Rattle.rig.specs.Rig.{placeRefusal, clockAt, answered}
+use Rattle.rig.specs.Rig.{tableRefusal, clockAt, answered}
+use Rattle.rig.specs.declared.rig.Answer.{Answer}
 use Rattle.rig.proofs.OneClock.{answer-passed, next-passed, table-kept, others-always-stay}
-use Rattle.rig_bounds.specs.Demand.{RigCall, Named, answerOf, tableAfter, reaches, ownEvents, OnlyTheseChange, AsAlone, EachAsAlone, Demand3OfEveryRig, lentAgain, OneTable}
+use Rattle.rig_bounds.specs.Demand.{RigCall, PlacedEvent, rigAnswer, tableAfter, clockBefore, clockBehind, reaches, ownEvents, OnlyTheseChange, AsAlone, EachAsAlone, ReadingOf, ReadingsNear, ReadingsForward, Demand3OfEveryRig, callsInTurn, OneTable}
 
-module _ (place : ℕ) (k : RigCall) where
+-- ---- one call
+
+module _ (k : RigCall) where
   abbrev passed : Bool
-  passed = eqb (placeRefusal (length (k .table)) (k .place)) 0
+  passed = eqb (tableRefusal (length (k .table)) (k .place)) 0
 
-  -- the clock at the place, by whether the call reaches it
-  next-by : (named passes : Bool) → eqb (k .place) place ≡ named → passed ≡ passes
-      → clockAt (tableAfter k) place ≡ cond (named && passes) (stepOf (clockAt (k .table) place) (k .event) .clock) (clockAt (k .table) place)
+  -- the clock that it leaves, by whether it reaches the clock
+  next-by : (named passes : Bool) → eqb (k .place) (k .at) ≡ named → passed ≡ passes → clockBehind k ≡ cond (named && passes) (stepOf (clockBefore k) (k .event) .clock) (clockBefore k)
   next-by true true e t =
-      let p : k .place ≡ place = eqb-true _ _ e in
+      let p : k .place ≡ k .at = eqb-true _ _ e in
       subst (λ (n : ℕ). clockAt (tableAfter k) n ≡ stepOf (clockAt (k .table) n) (k .event) .clock) p (next-passed (k .table) (k .place) (k .event) t)
-  next-by true false e t = ap (λ (cs : List Clock). clockAt cs place) (table-kept (k .table) (k .place) (k .event) t)
-  next-by false passes e t = others-always-stay (k .table) (k .place) (k .event) .others place (λ q. eqb-false _ _ e (sym q))
+  next-by true false e t = ap (λ (cs : List Clock). clockAt cs (k .at)) (table-kept (k .table) (k .place) (k .event) t)
+  next-by false passes e t = others-always-stay (k .table) (k .place) (k .event) .others (k .at) (λ q. eqb-false _ _ e (sym q))
 
-  next-is : clockAt (tableAfter k) place ≡ cond (reaches place k) (stepOf (clockAt (k .table) place) (k .event) .clock) (clockAt (k .table) place)
-  next-is = next-by (eqb (k .place) place) passed refl refl
+  next-is : clockBehind k ≡ cond (reaches k) (stepOf (clockBefore k) (k .event) .clock) (clockBefore k)
+  next-is = next-by (eqb (k .place) (k .at)) passed refl refl
 
   -- and so the clock after its own event, or none
-  after-one : (z : Bool) → reaches place k ≡ z → (c : Clock) → clockAt (k .table) place ≡ c → (ks : List RigCall)
-      → clockFrom (clockAt (tableAfter k) place) (ownEvents place ks) ≡ clockFrom c (ownEvents place (k ∷ ks))
+  after-one : (z : Bool) → reaches k ≡ z → (c : Clock) → clockBefore k ≡ c → (ks : List RigCall) → clockFrom (clockBehind k) (ownEvents ks) ≡ clockFrom c (ownEvents (k ∷ ks))
   unfolding ownEvents afterBy
-  after-one true t c p ks = simp t (ap (λ (d : Clock). clockFrom d (ownEvents place ks)) (next-is ∙ simp t (ap (λ (d : Clock). stepOf d (k .event) .clock) p)))
-  after-one false t c p ks = simp t (ap (λ (d : Clock). clockFrom d (ownEvents place ks)) (next-is ∙ simp t p))
+  after-one true t c p ks = simp t (ap (λ (d : Clock). clockFrom d (ownEvents ks)) (next-is ∙ simp t (ap (λ (d : Clock). stepOf d (k .event) .clock) p)))
+  after-one false t c p ks = simp t (ap (λ (d : Clock). clockFrom d (ownEvents ks)) (next-is ∙ simp t p))
 
-  answer-is : (c : Clock) → clockAt (k .table) place ≡ c → reaches place k ≡ true → answerOf k ≡ answered (stepOf c (k .event))
+  answer-is : (c : Clock) → clockBefore k ≡ c → reaches k ≡ true → rigAnswer k ≡ answered (stepOf c (k .event))
   answer-is c p t =
-      let both = and-true (eqb (k .place) place) passed t in
+      let both = and-true (eqb (k .place) (k .at)) passed t in
       answer-passed (k .table) (k .place) (k .event) (both .1)
       ∙ ap (λ (n : ℕ). answered (stepOf (clockAt (k .table) n) (k .event))) (eqb-true _ _ (both .0))
       ∙ ap (λ (d : Clock). answered (stepOf d (k .event))) p
 
--- the own events of two lists, one behind the other
-own-behind : (place : ℕ) (k : RigCall) (xs ys : List RigCall) → ownEvents place (xs ++ ys) ≡ ownEvents place xs ++ ownEvents place ys → (z : Bool) → reaches place k ≡ z
-    → ownEvents place (k ∷ (xs ++ ys)) ≡ ownEvents place (k ∷ xs) ++ ownEvents place ys
+-- ---- the own events of two lists, one behind the other
+
+own-behind : (k : RigCall) (xs ys : List RigCall) → ownEvents (xs ++ ys) ≡ ownEvents xs ++ ownEvents ys → (z : Bool) → reaches k ≡ z
+    → ownEvents (k ∷ (xs ++ ys)) ≡ ownEvents (k ∷ xs) ++ ownEvents ys
 unfolding ownEvents
-own-behind place k xs ys h true t = simp t (ap (λ (es : List Event). k .event ∷ es) h)
-own-behind place k xs ys h false t = simp t h
+own-behind k xs ys h true t = simp t (ap (λ (es : List Event). k .event ∷ es) h)
+own-behind k xs ys h false t = simp t h
 
-own-append : (place : ℕ) (xs ys : List RigCall) → ownEvents place (xs ++ ys) ≡ ownEvents place xs ++ ownEvents place ys
+own-append : (xs ys : List RigCall) → ownEvents (xs ++ ys) ≡ ownEvents xs ++ ownEvents ys
 unfolding ownEvents
-own-append place [] ys = refl
-own-append place (k ∷ xs) ys = own-behind place k xs ys (own-append place xs ys) (reaches place k) refl
+own-append [] ys = refl
+own-append (k ∷ xs) ys = own-behind k xs ys (own-append xs ys) (reaches k) refl
 
-module _ (place : ℕ) where
-  -- the clock that a call gets
-  got : (c : Clock) (before later : List RigCall) (k : RigCall) → OnlyTheseChange place c (before ++ (k ∷ later)) → clockAt (k .table) place ≡ clockFrom c (ownEvents place before)
-  unfolding OnlyTheseChange ownEvents afterBy
-  got c [] later k only = only .1
-  got c (j ∷ before) later k only = got (clockAt (tableAfter j) place) before later k (only .2) ∙ after-one place j (reaches place j) refl c (only .1) before
+-- a reading of the clock is one of its own events
+own-reading : (k : RigCall) (ks : List RigCall) → ReadingOf k → ownEvents (k ∷ ks) ≡ Call Reading ∷ ownEvents ks
+unfolding ownEvents
+own-reading k ks r = simp (r .0) (ap (λ (e : Event). e ∷ ownEvents ks) (r .1))
 
-  as-alone : (c : Clock) (before later : List RigCall) (k : RigCall) → OnlyTheseChange place c (before ++ (k ∷ later)) → AsAlone place c before k
-  unfolding ownEvents afterBy
-  as-alone c before later k only =
-      let g = got c before later k only in
-      record {
-        got = g;
-        left =
-            after-one place k (reaches place k) refl (clockFrom c (ownEvents place before)) g []
-            ∙ sym (after-append stepOf c (ownEvents place before) (ownEvents place (k ∷ [])))
-            ∙ ap (clockFrom c) (sym (own-append place before (k ∷ [])));
-        answer = answer-is place k (clockFrom c (ownEvents place before)) g;
-      }
+-- ---- a list of calls
 
-  each-as-alone : (c : Clock) (calls : List RigCall) → OnlyTheseChange place c calls → EachAsAlone place c calls
-  each-as-alone c calls only before later k e = as-alone c before later k (subst (OnlyTheseChange place c) e only)
+-- the clock that a call gets
+got : (c : Clock) (before later : List RigCall) (k : RigCall) → OnlyTheseChange c (before ++ (k ∷ later)) → clockBefore k ≡ clockFrom c (ownEvents before)
+unfolding OnlyTheseChange ownEvents afterBy
+got c [] later k only = only .1
+got c (j ∷ before) later k only = got (clockBehind j) before later k (only .2) ∙ after-one j (reaches j) refl c (only .1) before
+
+as-alone : (c : Clock) (before later : List RigCall) (k : RigCall) → OnlyTheseChange c (before ++ (k ∷ later)) → AsAlone c before k
+unfolding ownEvents afterBy
+as-alone c before later k only =
+    let g = got c before later k only in
+    record {
+      got = g;
+      left =
+          after-one k (reaches k) refl (clockFrom c (ownEvents before)) g []
+          ∙ sym (after-append stepOf c (ownEvents before) (ownEvents (k ∷ [])))
+          ∙ ap (clockFrom c) (sym (own-append before (k ∷ [])));
+      answer = answer-is k (clockFrom c (ownEvents before)) g;
+    }
+
+each-as-alone : (c : Clock) (calls : List RigCall) → OnlyTheseChange c calls → EachAsAlone c calls
+each-as-alone c calls only before later k e = as-alone c before later k (subst (OnlyTheseChange c) e only)
+
+-- ---- what the rig answers
+
+module _ (kind : ℕ) (h : kindRange kind ≡ true) (calls : List RigCall) (alone : EachAsAlone (freshClock kind) calls) where
+  -- a reading, on the clock by itself
+  read : (before later : List RigCall) (k : RigCall) → calls ≡ before ++ (k ∷ later) → ReadingOf k → rigAnswer k ≡ answered (stepOf (clockAfter kind (ownEvents before)) (Call Reading))
+  read before later k e r = alone before later k e .answer (r .0) ∙ ap (λ (v : Event). answered (stepOf (clockAfter kind (ownEvents before)) v)) (r .1)
+
+  near : ReadingsNear kind calls
+  near before later k e r =
+      let p = sym (read before later k e r) in
+      let first = demand3 .fresh kind h (ownEvents before) .first in
+      (subst (λ (a : Answer). a .refusal ≡ 0) p (first .accepted), subst (λ (a : Answer). NearExact (measureOf kind) (tells (a .reading)) (bookOf kind (ownEvents before))) p (first .near))
+
+  module _ (before between later : List RigCall) (j k : RigCall) (e : calls ≡ before ++ (j ∷ (between ++ (k ∷ later)))) (rj : ReadingOf j) (rk : ReadingOf k) where
+    own-first : ownEvents (before ++ (j ∷ [])) ≡ ownEvents before ++ (Call Reading ∷ [])
+    unfolding ownEvents
+    own-first = own-append before (j ∷ []) ∙ ap (λ (es : List Event). ownEvents before ++ es) (own-reading j [] rj)
+
+    own-second : ownEvents (before ++ (j ∷ between)) ≡ ownEvents before ++ (Call Reading ∷ ownEvents between)
+    own-second = own-append before (j ∷ between) ∙ ap (λ (es : List Event). ownEvents before ++ es) (own-reading j between rj)
+
+    own-all : ownEvents calls ≡ ownEvents before ++ (Call Reading ∷ (ownEvents between ++ (Call Reading ∷ ownEvents later)))
+    own-all =
+        ap ownEvents e
+        ∙ own-append before (j ∷ (between ++ (k ∷ later)))
+        ∙ ap (λ (es : List Event). ownEvents before ++ es) (own-reading j (between ++ (k ∷ later)) rj)
+        ∙ ap (λ (es : List Event). ownEvents before ++ (Call Reading ∷ es)) (own-append between (k ∷ later) ∙ ap (λ (es : List Event). ownEvents between ++ es) (own-reading k later rk))
+
+    -- what the two tell
+    told-first : rigAnswer j ≡ answered (stepOf (clockAfter kind (ownEvents before)) (Call Reading))
+    told-first = read before (between ++ (k ∷ later)) j e rj
+
+    told-second : rigAnswer k ≡ answered (stepOf (clockAfter kind (ownEvents before ++ (Call Reading ∷ ownEvents between))) (Call Reading))
+    told-second =
+        read (before ++ (j ∷ between)) later k (e ∙ sym (append-assoc before (j ∷ between) (k ∷ later))) rk
+        ∙ ap (λ (es : List Event). answered (stepOf (clockAfter kind es) (Call Reading))) own-second
+
+    -- the third bound at a clock c, the one after the first reading
+    Gone : Clock → Type 0
+    Gone c =
+        let es = singlyFrom c (ownEvents between) in
+        neitherSetNorInserted c es ≡ true → tells (rigAnswer j .reading) + measureOf kind .least * ticksAmong c es ≤ tells (rigAnswer k .reading)
+
+    gone : Gone (clockAfter kind (ownEvents before ++ (Call Reading ∷ [])))
+    unfolding Gone
+    gone u =
+        let c = clockAfter kind (ownEvents before ++ (Call Reading ∷ [])) in
+        let n : ℕ = measureOf kind .least * ticksAmong c (singlyFrom c (ownEvents between)) in
+        let t = demand3 .fresh kind h (ownEvents calls) .third (ownEvents before) (ownEvents between) (ownEvents later) own-all u in
+        subst (λ (a : Answer). tells (a .reading) + n ≤ tells (rigAnswer k .reading)) (sym told-first)
+        (subst (λ (a : Answer). tells (answered (stepOf (clockAfter kind (ownEvents before)) (Call Reading)) .reading) + n ≤ tells (a .reading)) (sym told-second) t)
+
+    goes : Gone (clockAfter kind (ownEvents (before ++ (j ∷ []))))
+    goes = subst (λ (es : List Event). Gone (clockAfter kind es)) (sym own-first) gone
+
+  forward : ReadingsForward kind calls
+  unfolding Gone
+  forward before between later j k e rj rk = goes before between later j k e rj rk
 
 pub demand3-of-rig : Demand3OfEveryRig
 demand3-of-rig =
     record {
-      fresh = λ place kind h calls only. record { alone = each-as-alone place _ calls only; demand = demand3 .fresh kind h (ownEvents place calls) };
-      set = λ place c calls only s u events e t.
-          record { alone = each-as-alone place c calls only; first = subst (FirstBound stepOf c) (sym e) (demand3 .set c s u events t) };
+      fresh = λ kind h calls only.
+          let alone = each-as-alone (freshClock kind) calls only in
+          record { demand = demand3 .fresh kind h (ownEvents calls); alone = alone; near = near kind h calls alone; forward = forward kind h calls alone };
+      set = λ c calls only s u events e t.
+          record { first = subst (FirstBound stepOf c) (sym e) (demand3 .set c s u events t); alone = each-as-alone c calls only };
     }
 
 pub one-table : OneTable
-unfolding lentAgain OnlyTheseChange
-one-table table [] place h = tt
-one-table table (n ∷ ns) place h =
-    let stay = others-always-stay table (n .place) (n .event) in
-    (h, refl, one-table _ ns place (subst (λ (l : ℕ). place < l) (sym (stay .length)) h))
+unfolding callsInTurn OnlyTheseChange
+one-table at table [] h = tt
+one-table at table (e ∷ es) h = (h, refl, one-table at _ es (subst (λ (l : ℕ). at < l) (sym (others-always-stay table (e .place) (e .event) .length)) h))

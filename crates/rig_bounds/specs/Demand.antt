@@ -1,5 +1,5 @@
 -- Demand 3 on a rig. Document 02, Req 07: "Demand 3 holds, over its own events, for each clock that is lent fresh and that only these calls change."
-use Prim.Native.Nat.{ℕ, _<_}
+use Prim.Native.Nat.{ℕ, _+_, _*_, _≤_, _<_}
 use mathlib.Core.Path.{_≡_}
 use mathlib.Core.Bool.{Bool, true, _&&_, cond}
 use mathlib.Core.List.{List, [], _∷_, _++_}
@@ -10,87 +10,117 @@ use Rattle.state.specs.State.{freshClock}
 use Rattle.state.specs.declared.state.Clock.{Clock}
 use Rattle.state.specs.declared.units.AskedMicros.{AskedMicros}
 use Rattle.event.specs.Event.{stepOf}
-use Rattle.event.specs.declared.event.Call.the-variants.{Setting}
+use Rattle.event.specs.declared.event.Call.the-variants.{Setting, Reading}
 use Rattle.event.specs.declared.event.Event.{Event}
 use Rattle.event.specs.declared.event.Event.the-variants.{Call}
-use Rattle.bounds.specs.Calls.{clockFrom, accepted}
-use Rattle.bounds.specs.Demand.{FirstBound, Demand3}
-use Rattle.rig.specs.Rig.{placeRefusal, clockAt, answered, answerAt, tableAt}
+use Rattle.bounds.specs.Calls.{clockFrom, clockAfter, accepted, ticksAmong, neitherSetNorInserted}
+use Rattle.bounds.specs.Singly.{singlyFrom}
+use Rattle.bounds.specs.Measure.{measureOf}
+use Rattle.bounds.specs.Demand.{tells, bookOf, NearExact, FirstBound, Demand3}
+use Rattle.rig.specs.Rig.{tableRefusal, clockAt, answered, answerAt, tableAt}
 use Rattle.rig.specs.declared.rig.Answer.{Answer}
 
--- A call on a rig: the table that it is lent, the place and the event.
+-- A call on a table that holds a certain clock: the table that the call is lent, where that clock lies in it, and the place and the event of the call.
+-- A tick of the clock in place is a call on the table of this one clock.
 pub record RigCall : Type 0 where
   pub table : List Clock
+  pub at : ℕ
   pub place : ℕ
   pub event : Event
 
 -- what it answers, and the table that it leaves: `rig::event_at`, by its promises
-abbrev pub answerOf : RigCall → Answer
-answerOf k = answerAt (k .table) (k .place) (k .event)
+abbrev pub rigAnswer : RigCall → Answer
+rigAnswer k = answerAt (k .table) (k .place) (k .event)
 
 abbrev pub tableAfter : RigCall → List Clock
 tableAfter k = tableAt (k .table) (k .place) (k .event)
 
--- A call reaches the clock at a place: it names that place, and the rig itself does not refuse it.
-abbrev pub reaches : ℕ → RigCall → Bool
-reaches place k = eqb (k .place) place && eqb (placeRefusal (length (k .table)) (k .place)) 0
+-- the clock that it gets, and the clock that it leaves
+abbrev pub clockBefore : RigCall → Clock
+clockBefore k = clockAt (k .table) (k .at)
 
--- "its own events", of the clock at a place
-unfoldable pub ownEvents : ℕ → List RigCall → List Event
-ownEvents place [] = []
-ownEvents place (k ∷ ks) = cond (reaches place k) (k .event ∷ ownEvents place ks) (ownEvents place ks)
+abbrev pub clockBehind : RigCall → Clock
+clockBehind k = clockAt (tableAfter k) (k .at)
 
--- "that only these calls change": each call gets the clock at the place as the call before left it, and the first gets c. Of the tables nothing
--- else is said: between two calls other recorders may be set, exchanged, hung on or taken off.
-unfoldable pub OnlyTheseChange : ℕ → Clock → List RigCall → Type 0
-OnlyTheseChange place c [] = Unit {0}
-OnlyTheseChange place c (k ∷ ks) =
-    (place < length (k .table)) × (clockAt (k .table) place ≡ c) × OnlyTheseChange place (clockAt (tableAfter k) place) ks
+-- It reaches the clock: it names its place, and the rig itself does not refuse it.
+abbrev pub reaches : RigCall → Bool
+reaches k = eqb (k .place) (k .at) && eqb (tableRefusal (length (k .table)) (k .place)) 0
 
--- A call of a list on a rig, with those before it: for the clock at a place, which was c at first, it is a call on a clock by itself, to which the
--- clock's own events have happened.
-pub record AsAlone (place : ℕ) (c : Clock) (before : List RigCall) (k : RigCall) : Type 0 where
+-- "its own events"
+unfoldable pub ownEvents : List RigCall → List Event
+ownEvents [] = []
+ownEvents (k ∷ ks) = cond (reaches k) (k .event ∷ ownEvents ks) (ownEvents ks)
+
+-- "that only these calls change": each call gets the clock as the call before left it, and the first gets c. Nothing else is said of the tables: from one
+-- call to the next the clock may lie elsewhere, and other recorders may be set, exchanged, hung on or taken off.
+unfoldable pub OnlyTheseChange : Clock → List RigCall → Type 0
+OnlyTheseChange c [] = Unit {0}
+OnlyTheseChange c (k ∷ ks) = (k .at < length (k .table)) × (clockBefore k ≡ c) × OnlyTheseChange (clockBehind k) ks
+
+-- A call of a list, with those before it, is one on a clock by itself, c at first, to which its own events have happened.
+pub record AsAlone (c : Clock) (before : List RigCall) (k : RigCall) : Type 0 where
   -- the clock that it gets, and the one that it leaves
-  pub got : clockAt (k .table) place ≡ clockFrom c (ownEvents place before)
-  pub left : clockAt (tableAfter k) place ≡ clockFrom c (ownEvents place (before ++ (k ∷ [])))
+  pub got : clockBefore k ≡ clockFrom c (ownEvents before)
+  pub left : clockBehind k ≡ clockFrom c (ownEvents (before ++ (k ∷ [])))
   -- what it answers, where it reaches the clock
-  pub answer : reaches place k ≡ true → answerOf k ≡ answered (stepOf (clockFrom c (ownEvents place before)) (k .event))
+  pub answer : reaches k ≡ true → rigAnswer k ≡ answered (stepOf (clockFrom c (ownEvents before)) (k .event))
 
 -- each call of a list
-abbrev pub EachAsAlone : ℕ → Clock → List RigCall → Type 0
-EachAsAlone place c calls = (before later : List RigCall) (k : RigCall) → calls ≡ before ++ (k ∷ later) → AsAlone place c before k
+abbrev pub EachAsAlone : Clock → List RigCall → Type 0
+EachAsAlone c calls = (before later : List RigCall) (k : RigCall) → calls ≡ before ++ (k ∷ later) → AsAlone c before k
 
--- Demand 3 of the clock at a place, lent fresh and of a kind.
-pub record Demand3OfRig (place kind : ℕ) (calls : List RigCall) : Type 0 where
-  pub alone : EachAsAlone place (freshClock kind) calls
-  pub demand : Demand3 stepOf kind (ownEvents place calls)
+-- a reading of the clock, on the rig
+abbrev pub ReadingOf : RigCall → Type 0
+ReadingOf k = (reaches k ≡ true) × (k .event ≡ Call Reading)
 
--- its first bound, of a clock that is lent as it is and whose own events begin with a setting
-pub record FirstBoundOfRig (place : ℕ) (c : Clock) (calls : List RigCall) : Type 0 where
-  pub alone : EachAsAlone place c calls
-  pub first : FirstBound stepOf c (ownEvents place calls)
+-- The first bound of what the rig answers: a reading is accepted, and near the exact time of the clock's own events before it.
+abbrev pub ReadingsNear : ℕ → List RigCall → Type 0
+ReadingsNear kind calls =
+    (before later : List RigCall) (k : RigCall) → calls ≡ before ++ (k ∷ later) → ReadingOf k
+    → (rigAnswer k .refusal ≡ 0) × NearExact (measureOf kind) (tells (rigAnswer k .reading)) (bookOf kind (ownEvents before))
+
+-- The third: whichever two readings of the clock, with n of its own ticks and neither a setting nor an inserted second between them.
+abbrev pub ReadingsForward : ℕ → List RigCall → Type 0
+ReadingsForward kind calls =
+    (before between later : List RigCall) (j k : RigCall) → calls ≡ before ++ (j ∷ (between ++ (k ∷ later))) → ReadingOf j → ReadingOf k
+    → let c = clockAfter kind (ownEvents (before ++ (j ∷ []))) in
+    let es = singlyFrom c (ownEvents between) in
+    neitherSetNorInserted c es ≡ true
+    → tells (rigAnswer j .reading) + measureOf kind .least * ticksAmong c es ≤ tells (rigAnswer k .reading)
+
+-- Demand 3 of a clock that is lent fresh, of a kind: of its own events, and so of what the rig answers.
+pub record Demand3OfRigClock (kind : ℕ) (calls : List RigCall) : Type 0 where
+  pub demand : Demand3 stepOf kind (ownEvents calls)
+  pub alone : EachAsAlone (freshClock kind) calls
+  pub near : ReadingsNear kind calls
+  pub forward : ReadingsForward kind calls
+
+-- its first bound, of a clock that is lent as it is
+pub record FirstBoundOfRigClock (c : Clock) (calls : List RigCall) : Type 0 where
+  pub first : FirstBound stepOf c (ownEvents calls)
+  pub alone : EachAsAlone c calls
 
 pub record Demand3OfEveryRig : Type 0 where
-  pub fresh : (place kind : ℕ) → kindRange kind ≡ true → (calls : List RigCall) → OnlyTheseChange place (freshClock kind) calls
-      → Demand3OfRig place kind calls
-  pub set : (place : ℕ) (c : Clock) (calls : List RigCall) → OnlyTheseChange place c calls
-      → (s : ℕ) (u : AskedMicros) (events : List Event) → ownEvents place calls ≡ Call (Setting s u) ∷ events → accepted c (Setting s u) ≡ true
-      → FirstBoundOfRig place c calls
+  pub fresh : (kind : ℕ) → kindRange kind ≡ true → (calls : List RigCall) → OnlyTheseChange (freshClock kind) calls → Demand3OfRigClock kind calls
+  -- Req 06: the first bound also "for lists that begin with an accepted setting on any clock"
+  pub set : (c : Clock) (calls : List RigCall) → OnlyTheseChange c calls
+      → (s : ℕ) (u : AskedMicros) (events : List Event) → ownEvents calls ≡ Call (Setting s u) ∷ events → accepted c (Setting s u) ≡ true
+      → FirstBoundOfRigClock c calls
 
 -- ---- one table, lent again and again
 
--- a call without its table
-pub record Named : Type 0 where
+-- an event and its place
+pub record PlacedEvent : Type 0 where
   pub place : ℕ
   pub event : Event
 
--- each call gets the table as the call before left it
-unfoldable pub lentAgain : List Clock → List Named → List RigCall
-lentAgain table [] = []
-lentAgain table (n ∷ ns) =
-    let k : RigCall = record { table = table; place = n .place; event = n .event } in
-    k ∷ lentAgain (tableAfter k) ns
+-- the calls, each of which gets the table as the call before left it, as the clock at a place sees them
+unfoldable pub callsInTurn : ℕ → List Clock → List PlacedEvent → List RigCall
+callsInTurn at table [] = []
+callsInTurn at table (e ∷ es) =
+    let k : RigCall = record { table = table; at = at; place = e .place; event = e .event } in
+    k ∷ callsInTurn at (tableAfter k) es
 
 -- Then only these calls change any of its clocks.
 abbrev pub OneTable : Type 0
-OneTable = (table : List Clock) (calls : List Named) (place : ℕ) → place < length table → OnlyTheseChange place (clockAt table place) (lentAgain table calls)
+OneTable = (at : ℕ) (table : List Clock) (events : List PlacedEvent) → at < length table → OnlyTheseChange (clockAt table at) (callsInTurn at table events)

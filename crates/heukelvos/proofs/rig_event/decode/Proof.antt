@@ -37,8 +37,8 @@ known-event-requires-4 c κs = search needs
 known-event-requires-5 : tie.Need-known-event-requires-5
 known-event-requires-5 c κs = search needs
 
-refused-with-requires : tie.Need-refused-with-requires
-refused-with-requires c κs = search needs
+bare-answer-requires : tie.Need-bare-answer-requires
+bare-answer-requires c κs = search needs
 
 returns : tie.Need-returns
 returns c = simp (c .before .match .keys1) (c .known-event .ensures)
@@ -59,7 +59,7 @@ returns-6 : tie.Need-returns-6
 returns-6 c =
     let r = c .before .match .rest in
     simp (ne-eqb _ _ (r .0 .0 .0 .0 .1), ne-eqb _ _ (r .0 .0 .0 .1), ne-eqb _ _ (r .0 .0 .1), ne-eqb _ _ (r .1), lt-ltb _ _ (beyond _ (r .0 .0 .0 .0 .1) (r .0 .0 .0 .1) (r .0 .0 .1) (r .0 .1) (r .1)))
-    (ap (λ (a : Answer). let d : Decoded = record { answer = a; event = Call Reading } in d) (c .refused-with .ensures))
+    (ap (λ (a : Answer). let d : Decoded = record { answer = a; event = Call Reading } in d) (c .bare-answer .ensures))
 
 pub decode-spec : {M : Type 1} → statement M
 decode-spec =
@@ -70,7 +70,7 @@ decode-spec =
     known-event-requires-3
     known-event-requires-4
     known-event-requires-5
-    refused-with-requires
+    bare-answer-requires
     returns
     returns-2
     returns-3

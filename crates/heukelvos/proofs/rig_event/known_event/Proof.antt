@@ -6,11 +6,11 @@ use Rattle.heukelvos.specs.declared.rig_event.Decoded.{Decoded}
 use Rattle.heukelvos.proofs.rig_event.known_event.Statement.{statement}
 use Rattle.heukelvos.proofs.rig_event.known_event.Tie as tie
 
-refused-with-requires : tie.Need-refused-with-requires
-refused-with-requires c κs = search needs
+bare-answer-requires : tie.Need-bare-answer-requires
+bare-answer-requires c κs = search needs
 
 returns : tie.Need-returns
-returns c = ap (λ (a : Answer). let d : Decoded = record { answer = a; event = c .before .args .e } in d) (c .refused-with .ensures)
+returns c = ap (λ (a : Answer). let d : Decoded = record { answer = a; event = c .before .args .e } in d) (c .bare-answer .ensures)
 
 pub known-event-spec : {M : Type 1} → statement M
-known-event-spec = tie.close (tie.spec refused-with-requires returns)
+known-event-spec = tie.close (tie.spec bare-answer-requires returns)

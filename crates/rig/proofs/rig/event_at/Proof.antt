@@ -49,7 +49,7 @@ use denote.Triple.Clauses.{ensured, lasts}
 use Rattle.state.specs.declared.state.Clock.{Clock}
 use Rattle.event.specs.Event.{stepOf}
 use Rattle.event.specs.declared.event.Event.{Event}
-use Rattle.rig.specs.Rig.{placeRefusal, clockAt, parted, refusedWith, answerAt, tableAt}
+use Rattle.rig.specs.Rig.{tableRefusal, clockAt, parted, bareAnswer, answerAt, tableAt}
 use Rattle.rig.specs.declared.rig.Answer.{Answer}
 use Rattle.rig.specs.declared.rig.Parted.{Parted}
 use Rattle.state.proofs.state.Clock as T
@@ -60,10 +60,10 @@ use Rattle.rig.proofs.rig.Answer as N
 use Rattle.rig.proofs.rig.Answer.Laws as N′
 use Rattle.rig.proofs.rig.Parted as R
 use Rattle.rig.proofs.rig.Parted.Laws as R′
-use Rattle.rig.proofs.rig.place_answer as judge
-use Rattle.rig.proofs.rig.place_answer.Symbol as judge-def
-use Rattle.rig.proofs.rig.place_answer.Symbol.{name as #judge}
-use Rattle.rig.proofs.rig.place_answer.Met as judge-thm
+use Rattle.rig.proofs.rig.table_answer as judge
+use Rattle.rig.proofs.rig.table_answer.Symbol as judge-def
+use Rattle.rig.proofs.rig.table_answer.Symbol.{name as #judge}
+use Rattle.rig.proofs.rig.table_answer.Met as judge-thm
 use Rattle.rig.proofs.rig.parted_step as callee
 use Rattle.rig.proofs.rig.parted_step.Symbol as callee-def
 use Rattle.rig.proofs.rig.parted_step.Symbol.{name as #callee}
@@ -91,12 +91,12 @@ module _ (ys : List Clock) (i : ℕ) (e : Event) where
   abbrev Says : Answer → List Clock → Type 0
   Says a zs = (a ≡ answerAt ys i e) × (zs ≡ tableAt ys i e)
 
-  refused-says : (a : Answer) → a ≡ refusedWith (placeRefusal (length ys) i) → T (not (eqb (a .refusal) 0)) → Says a ys
+  refused-says : (a : Answer) → a ≡ bareAnswer (tableRefusal (length ys) i) → T (not (eqb (a .refusal) 0)) → Says a ys
   unfolding answerAt tableAt
-  refused-says a p t = let z : eqb (placeRefusal (length ys) i) 0 ≡ false = ap (λ (b : Answer). eqb (b .refusal) 0) (sym p) ∙ not-zero (a .refusal) t in (rw z p, rw z refl)
+  refused-says a p t = let z : eqb (tableRefusal (length ys) i) 0 ≡ false = ap (λ (b : Answer). eqb (b .refusal) 0) (sym p) ∙ not-zero (a .refusal) t in (rw z p, rw z refl)
 
   -- of the clock h at the place
-  module _ (h : Clock) (h-is : h ≡ clockAt ys i) (r : Parted) (z : placeRefusal (length ys) i ≡ 0) (p : r ≡ parted (stepOf h e)) where
+  module _ (h : Clock) (h-is : h ≡ clockAt ys i) (r : Parted) (z : tableRefusal (length ys) i ≡ 0) (p : r ≡ parted (stepOf h e)) where
     done-says : Says (r .answer) (set ys i (r .clock))
     unfolding answerAt tableAt
     done-says = let p′ : r ≡ parted (stepOf (clockAt ys i) e) = p ∙ ap (λ (d : Clock). parted (stepOf d e)) h-is in (rw z (ap (λ (s : Parted). s .answer) p′), rw z (ap (λ (s : Parted). set ys i (s .clock)) p′))
@@ -180,8 +180,8 @@ module _ {M : Type 1} (𝓤 : URA M) (H : Heap 𝓤) (A : Atoms 𝓤) (at-mem : 
   abbrev Callee : Contract 𝓤
   Callee = tripleOf 𝓤 H A callee.signature (callee.spec 𝓤 H A at-mem run)
 
-  judge-said : (n i : ℕ) (a : Answer) → ent 𝓤 (ensured 𝓤 H A judge.ended (judge.clauses 𝓤 H A at-mem run) tt (n, (i, tt)) tt a) (fact 𝓤 (a ≡ refusedWith (placeRefusal n i)))
-  judge-said n i a = exE 𝓤 _ (λ ws. snd∗ 𝓤 (sem 𝓤 H A (lasts judge.ended tt (n, (i, tt)) ws)) (fact 𝓤 (a ≡ refusedWith (placeRefusal n i))))
+  judge-said : (n i : ℕ) (a : Answer) → ent 𝓤 (ensured 𝓤 H A judge.ended (judge.clauses 𝓤 H A at-mem run) tt (n, (i, tt)) tt a) (fact 𝓤 (a ≡ bareAnswer (tableRefusal n i)))
+  judge-said n i a = exE 𝓤 _ (λ ws. snd∗ 𝓤 (sem 𝓤 H A (lasts judge.ended tt (n, (i, tt)) ws)) (fact 𝓤 (a ≡ bareAnswer (tableRefusal n i))))
 
   said : (h : Clock) (e : Event) (r : Parted) → ent 𝓤 (ensured 𝓤 H A callee.ended (callee.clauses 𝓤 H A at-mem run) tt (h, (e, tt)) tt r) (fact 𝓤 (r ≡ parted (stepOf h e)))
   said h e r = exE 𝓤 _ (λ ws. snd∗ 𝓤 (sem 𝓤 H A (lasts callee.ended tt (h, (e, tt)) ws)) (fact 𝓤 (r ≡ parted (stepOf h e))))
@@ -242,7 +242,7 @@ module _ {M : Type 1} (𝓤 : URA M) (H : Heap 𝓤) (A : Atoms 𝓤) (W : Given
     En = (AnswerTy, l₀) ∷ (Slice, l₁) ∷ (tyInt w64, l₂) ∷ (EventTy, l₃) ∷ (AnswerTy, l₄) ∷ (PartedTy, l₅) ∷ (tyInt w64, l₆) ∷ (tyBool, l₇) ∷ (tyPtr, l₈) ∷ (ClockTy, l₉) ∷ (tyPtr, l₁₀) ∷ []
 
     -- the clock h at the place has been taken out of the table, which is open
-    asks : (h : Clock) → h ≡ clockAt ys i → IsClock h → (a : Answer) (y : Bool) → FmC 𝓤 H (W .laws) C → Triple 𝓤 (C #callee) (Callee 𝓤 H A at-mem run) → placeRefusal (length ys) i ≡ 0 → i < length ys → i * 52 < 2 ^ 64
+    asks : (h : Clock) → h ≡ clockAt ys i → IsClock h → (a : Answer) (y : Bool) → FmC 𝓤 H (W .laws) C → Triple 𝓤 (C #callee) (Callee 𝓤 H A at-mem run) → tableRefusal (length ys) i ≡ 0 → i < length ys → i * 52 < 2 ^ 64
         → Sq W (‵ (cellAt fullShare (T.the-row .mir) (valC h ∷ []) b (index.place 52 o i)) ∷ ‵ (T.the-row .own h (valC h ∷ [])) ∷ ‵ (index.others (shares T.the-row) fullShare ys i b o) ∷ ‵ (fobor κ q (Held T.the-row (length ys) b o γ)) ∷ ‵ (fobs γ (codedHoleys T.the-row .code (heres T.the-row ys))) ∷ ‵ (fauth γ (codedHoleys T.the-row .code (heres T.the-row ys)))
         ∷ ‵ (froom tyPtr l₁₀ 0) ∷ ‵ (fdies tyPtr l₁₀) ∷ ‵ (froom ClockTy l₉ 0) ∷ ‵ (fdies ClockTy l₉) ∷ ‵ (fat fullShare tyPtr l₈ 0 (vptr b (index.place 52 o i))) ∷ ‵ (fdies tyPtr l₈) ∷ ‵ (fat fullShare tyBool l₇ 0 (vbool y)) ∷ ‵ (fdies tyBool l₇) ∷ ‵ (fat fullShare (tyInt w64) l₆ 0 (vint w64 (i * 52))) ∷ ‵ (fdies (tyInt w64) l₆) ∷ ‵ (froom PartedTy l₅ 0) ∷ ‵ (fdies PartedTy l₅)
         ∷ ‵ (fat fullShare AnswerTy l₄ 0 (valN a)) ∷ ‵ (fdies AnswerTy l₄) ∷ ‵ (fat fullShare EventTy l₃ 0 (EL.val E.the-type E′.the-laws e)) ∷ ‵ (fdies EventTy l₃) ∷ ‵ (fat fullShare (tyInt w64) l₂ 0 (vint w64 i)) ∷ ‵ (fdies (tyInt w64) l₂) ∷ ‵ (fat fullShare Slice l₁ 0 s) ∷ ‵ (fdies Slice l₁) ∷ ‵ (froom AnswerTy l₀ 0) ∷ ‵ (fdies AnswerTy l₀) ∷ []) (runs C Λ En mir.t-7 (atRet En Post))
@@ -264,7 +264,7 @@ module _ {M : Type 1} (𝓤 : URA M) (H : Heap 𝓤) (A : Atoms 𝓤) (W : Given
         (λ t. skips ! $ exec ! C Λ _ mir.t-11 (atRet _ Post) $ stores Post EventTy AnswerTy tyBool tyPtr ClockTy _ _ _ _ _ h r l fits (in-answer r u is) (in-clock r u is) (exits (r .answer) (set ys i (r .clock)) (length-set ys i (r .clock)) (in-answer r u is) (done-says ys i e h h-is r z p)))))
 
     -- where the table and the place are not refused
-    steps : (a : Answer) (y : Bool) → FmC 𝓤 H (W .laws) C → Triple 𝓤 (C #callee) (Callee 𝓤 H A at-mem run) → placeRefusal (length ys) i ≡ 0 → i < length ys → i * 52 < 2 ^ 64
+    steps : (a : Answer) (y : Bool) → FmC 𝓤 H (W .laws) C → Triple 𝓤 (C #callee) (Callee 𝓤 H A at-mem run) → tableRefusal (length ys) i ≡ 0 → i < length ys → i * 52 < 2 ^ 64
         → Sq W (‵ (froom tyPtr l₁₀ 0) ∷ ‵ (fdies tyPtr l₁₀) ∷ ‵ (froom ClockTy l₉ 0) ∷ ‵ (fdies ClockTy l₉) ∷ ‵ (froom tyPtr l₈ 0) ∷ ‵ (fdies tyPtr l₈) ∷ ‵ (fat fullShare tyBool l₇ 0 (vbool y)) ∷ ‵ (fdies tyBool l₇) ∷ ‵ (fat fullShare (tyInt w64) l₆ 0 (vint w64 (length ys))) ∷ ‵ (fdies (tyInt w64) l₆) ∷ ‵ (froom PartedTy l₅ 0) ∷ ‵ (fdies PartedTy l₅) ∷ ‵ (fat fullShare AnswerTy l₄ 0 (valN a)) ∷ ‵ (fdies AnswerTy l₄) ∷ ‵ (fat fullShare EventTy l₃ 0 (EL.val E.the-type E′.the-laws e)) ∷ ‵ (fdies EventTy l₃) ∷ ‵ (fat fullShare (tyInt w64) l₂ 0 (vint w64 i)) ∷ ‵ (fdies (tyInt w64) l₂) ∷ ‵ (fat fullShare Slice l₁ 0 s) ∷ ‵ (fdies Slice l₁) ∷ ‵ (froom AnswerTy l₀ 0) ∷ ‵ (fdies AnswerTy l₀)
         ∷ ‵ (fobs γ (codedHoleys T.the-row .code (heres T.the-row ys))) ∷ ‵ (fbor κ (Held T.the-row (length ys) b o γ)) ∷ ‵ (flft κ q) ∷ []) (runs C Λ En mir.t-5 (atRet En Post))
     steps a y fm known z l fits =
@@ -283,7 +283,7 @@ module _ {M : Type 1} (𝓤 : URA M) (H : Heap 𝓤) (A : Atoms 𝓤) (W : Given
         assigns ! (of-opd ! (load ! (from ! (fld ! refl (stop !))) (look-in ! 18 (sub ! 1 refl (whole !))))) (from ! (stop !)) (init ! 8 refl (tt, record { fits = room .0 })) $
         nothing ! $ use1 W (raw (Judge 𝓤 H A at-mem run .pre judged)) goes-to-judge $
         calls-at ! fm (Judge 𝓤 H A at-mem run) known-judge judged (and-then ! (load ! (from ! (stop !)) (look ! 9 refl)) (and-then ! (load ! (from ! (stop !)) (look ! 17 refl)) (no-more !))) (λ v.
-        answered ! tt N.the-type _ (λ a. ensured 𝓤 H A judge.ended (judge.clauses 𝓤 H A at-mem run) tt (length ys, (i, tt)) tt a) (λ a. a ≡ refusedWith (placeRefusal (length ys) i)) v (id⊢ 𝓤 _) (judge-said 𝓤 H A at-mem run (length ys) i) (λ a p is.
+        answered ! tt N.the-type _ (λ a. ensured 𝓤 H A judge.ended (judge.clauses 𝓤 H A at-mem run) tt (length ys, (i, tt)) tt a) (λ a. a ≡ bareAnswer (tableRefusal (length ys) i)) v (id⊢ 𝓤 _) (judge-said 𝓤 H A at-mem run (length ys) i) (λ a p is.
         land ! (from ! (stop !)) (init ! 12 refl (L.lawful N.the-type N′.the-laws 𝓤 H A W .typed a _ is .0)) $
         rewrite ! 12 (λ (u : Val). ‵ (fat fullShare N′.mir l₄ 0 u)) (is-value N.the-type N′.the-laws a v is) refl $
         assigns ! (bin ! (load ! (from ! (fld ! refl (stop !))) (look-in ! 12 (sub ! 0 refl (whole !)))) (lit ! tt) tt) (from ! (stop !)) (init ! 6 refl (tt, tt)) $
@@ -293,7 +293,7 @@ module _ {M : Type 1} (𝓤 : URA M) (H : Heap 𝓤) (A : Atoms 𝓤) (W : Given
         move ! (20 ∷ 21 ∷ []) $ free1 ! $ move ! (18 ∷ 19 ∷ []) $ free1 ! $ move ! (16 ∷ 17 ∷ []) $ free1 ! $ move ! (14 ∷ 15 ∷ []) $ free1 ! $ move ! (12 ∷ 13 ∷ []) $ free1 ! $ move ! (10 ∷ 11 ∷ []) $ free1 ! $ move ! (8 ∷ 9 ∷ []) $ free1 ! $ move ! (6 ∷ 7 ∷ []) $ free1 ! $ move ! (4 ∷ 5 ∷ []) $ free1 ! $ move ! (2 ∷ 3 ∷ []) $ free1 ! $ free1 ! $ free0 ! $
         given-up ! κ γ (length ys) b o ys $ by ! (exits a ys refl (whole-answer a v is) (refused-says ys i e a p t)))
         (λ t. skips ! $ exec ! C Λ _ mir.t-5 (atRet _ Post) $
-        let z : placeRefusal (length ys) i ≡ 0 = ap (λ (c : Answer). c .refusal) (sym p) ∙ is-zero (a .refusal) t in
+        let z : tableRefusal (length ys) i ≡ 0 = ap (λ (c : Answer). c .refusal) (sym p) ∙ is-zero (a .refusal) t in
         steps a _ fm known z (within (length ys) i z) (scaled (length ys) i (room .1) (within (length ys) i z)))))
 
   module _ (C : Calls 𝓤 H) (Λ : Loops 𝓤 H) (fm : FmC 𝓤 H (W .laws) C) (known-judge : Triple 𝓤 (C #judge) (Judge 𝓤 H A at-mem run)) (known : Triple 𝓤 (C #callee) (Callee 𝓤 H A at-mem run)) where
@@ -319,5 +319,5 @@ event-at-spec 𝓤 H 𝓜 𝓖 𝓡 =
     entered 𝓤 H (tripleOf 𝓤 H (𝓖 .A) f.signature (f.spec 𝓤 H (𝓖 .A) (𝓜 .mem) (𝓡 .run)))
     (tables 𝓤 H 𝓜 𝓡 code.env .C) (tables 𝓤 H 𝓜 𝓡 code.env .Λ) #this code.function (code.unfolded 𝓤 H 𝓜 𝓡)
     (met 𝓤 H (𝓖 .A) (givenOf 𝓤 H 𝓜 𝓖) (𝓜 .mem) (𝓡 .run) (tablesOf 𝓤 H 𝓜 (tables 𝓤 H 𝓜 𝓡 code.env))
-    (cited 𝓤 H (Judge 𝓤 H (𝓖 .A) (𝓜 .mem) (𝓡 .run)) 𝓜 𝓡 code.env #judge judge-def.routine code.calls-rig·rig·place-answer (judge-thm.met 𝓤 H 𝓜 𝓖 𝓡))
+    (cited 𝓤 H (Judge 𝓤 H (𝓖 .A) (𝓜 .mem) (𝓡 .run)) 𝓜 𝓡 code.env #judge judge-def.routine code.calls-rig·rig·table-answer (judge-thm.met 𝓤 H 𝓜 𝓖 𝓡))
     (cited 𝓤 H (Callee 𝓤 H (𝓖 .A) (𝓜 .mem) (𝓡 .run)) 𝓜 𝓡 code.env #callee callee-def.routine code.calls-rig·rig·parted-step (callee-thm.met 𝓤 H 𝓜 𝓖 𝓡)))
