@@ -9,13 +9,13 @@
  * user-space code: it uses SSE registers and the red zone below the stack, which a signal handler has saved and a bare interrupt has not.
  *
  * Every call takes any values: a clock that is not sound, or an argument out of its range, gets its refusal number, and nothing is changed.
- * The lowest number that applies is given. What C itself must see to:
- *   - a pointer is not null, and points to a whole object, aligned as its type (for a label, to `length` bytes; for a rig, to `clocks` clocks), that nothing
- *     else reads or writes until the call returns;
+ * Of a call on one clock the lowest number that applies is given; heukelvos_event_at has an order of its own. What C itself must see to:
+ *   - a pointer is not null, and points to a whole object, aligned as its type (for a label, to `length` bytes; for a rig, to all of its
+ *     `clocks` clocks, and for 0 of them it is not null either), that nothing else reads or writes until the call returns;
  *   - a handler that ticks a clock is held off while the same clock is used elsewhere: around a call that it is lent to; by value, from the
  *     copy of the clock that goes in until the answer's clock is stored, or the ticks made in between are lost; for a reading or a label,
  *     while the clock is copied;
- *   - a bool holds 0 or 1, as every conversion to it gives.
+ *   - a bool holds 0 or 1, as every conversion to it gives; in an event that of `stop` too, whatever the code is.
  *
  * What is promised of each call, and by which definition: docs/REFERENCE.md, "From C". test/c_program.sh holds this file to the crates.
  */
@@ -182,21 +182,24 @@ struct heukelvos_told {
 	struct heukelvos_reading reading;
 };
 
-/* An event on a rig, 96 bytes: its code, and the numbers of each kind of event. Those of another code are not looked at. */
+/*
+ * An event on a rig, 96 bytes: its code, and the numbers of every sort of event, of which those of its code are looked at. All 64 bits of a
+ * number count. { .code = HEUKELVOS_EVENT_TICK } is a whole event.
+ */
 struct heukelvos_event {
 	uint64_t code;                    /* enum heukelvos_event_code */
-	uint64_t seconds;                 /* of a setting */
-	uint64_t micros;                  /* of a setting */
+	uint64_t seconds;                 /* of a setting: since 1970-01-01T00:00:00Z */
+	uint64_t micros;                  /* of a setting: of the second, us */
 	struct heukelvos_request request; /* of a request */
-	uint64_t ceiling;                 /* of a catch-up */
-	bool stop;                        /* of a catch-up */
+	uint64_t ceiling;                 /* of a catch-up: ticks, at most HEUKELVOS_MAX_CEILING */
+	bool stop;                        /* of a catch-up: whether it stops at a rollover */
 };
 
 /* What it answers, 40 bytes: the clock stays in the table. */
 struct heukelvos_answer {
 	uint8_t refusal;
 	uint64_t count;                   /* of a catch-up how many ticks were accepted, else 0 */
-	uint8_t tick_refusal;             /* of a catch-up that of the tick that ended it, else 0 */
+	uint8_t tick_refusal;             /* of a catch-up that of the tick that ended it: 3, or 0 where none was refused; else 0 */
 	struct heukelvos_reading reading; /* of an accepted reading what the clock shows, else zeros and status 4 */
 };
 
@@ -217,11 +220,14 @@ struct heukelvos_counted heukelvos_catch_up(struct heukelvos_clock *clock, uint6
 /*
  * A rig: several recorders on one host, their clocks in one table, which is lent.
  *
- * heukelvos_event_at: an event on the clock at `place`, from 0, of a table of `clocks`; its answer and what becomes of that clock are those of
- * the call for the event: heukelvos_tick, heukelvos_set, heukelvos_adjust, heukelvos_read or heukelvos_catch_up. Before any clock is looked
- * at, refusal 12 for an unknown code, then 19 for a table of more than eight clocks, then 18 for a place beyond it, as is each place of an
- * empty one; then the refusals of the call. Only the clock at the place is looked at, and only it is written to, and only where the event is
- * accepted: another may be out of range.
+ * heukelvos_event_at: an event on the clock at `place`, from 0, of a table of `clocks` clocks. What it answers, and what becomes of that clock, is
+ * what the call for the event does: heukelvos_tick, heukelvos_set, heukelvos_adjust, heukelvos_read or heukelvos_catch_up. Before any clock is
+ * looked at, refusal 12 for an unknown code, then 19 for a table of more than eight clocks, then 18 for a place beyond it, as is each place of
+ * an empty one; then the refusals of the call. A refused event writes to nothing; an accepted one, a reading too, writes the clock at its place.
+ * No other clock is looked at or written to: it may be out of range.
+ *
+ * The whole table is lent, and so a handler of any of its clocks is held off. Where that is not wanted, one clock can be lent as a table of its
+ * own, (&table[place], 1, 0, event), and a tick of it be made by heukelvos_tick(&table[place]), which is the same tick and faster.
  */
 struct heukelvos_answer heukelvos_event_at(struct heukelvos_clock *table, size_t clocks, size_t place, struct heukelvos_event event);
 

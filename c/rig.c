@@ -28,7 +28,7 @@ typedef struct heukelvos_event Event;
 typedef struct heukelvos_answer Answer;
 
 #define CODES 5
-#define MOST 9 /* clocks of a table: one more than is allowed */
+#define TRIED 9 /* clocks of a table: one more than is allowed */
 
 static bool same_answer(Answer a, Answer b)
 {
@@ -86,17 +86,23 @@ static uint8_t judged(size_t clocks, size_t place, Event e)
 	return place < clocks ? 0 : HEUKELVOS_REFUSED_PLACE;
 }
 
-/* A table with a clock before it and one behind it that no call may touch. */
+/* A table of up to nine clocks, with one before it and one behind it that no call may touch. */
 struct around {
-	Clock before, table[MOST], behind;
+	Clock all[TRIED + 2];
 };
 
-/* The bytes of two of them are the same, but for those of the clock at a place; of no clock where it lies beyond the table. */
-static bool untouched(const struct around *a, const struct around *b, size_t place)
+static Clock *table_of(struct around *a)
 {
-	struct around left = *b;
-	if (place < MOST)
-		left.table[place] = a->table[place];
+	return a->all + 1;
+}
+
+/* The bytes of two of them are the same, but for those of the clock at a place; of no clock where it lies beyond the table. */
+static bool untouched(struct around *a, struct around *b, size_t place)
+{
+	static struct around left;
+	memcpy(&left, b, sizeof left);
+	if (place < TRIED)
+		memcpy(table_of(&left) + place, table_of(a) + place, sizeof(Clock));
 	return memcmp(a, &left, sizeof left) == 0;
 }
 
@@ -112,17 +118,18 @@ static bool wrong(const char *what, size_t clocks, size_t place, Event e, Answer
 /* One call: its answer, the clock at its place, and everything else. A refused call writes to no byte. */
 static bool as_alone(struct around *now, size_t clocks, size_t place, Event e)
 {
-	struct around was = *now;
+	static struct around was;
+	memcpy(&was, now, sizeof was);
 	uint8_t refusal = judged(clocks, place, e);
-	Clock c = place < MOST ? was.table[place] : was.before;
+	Clock c = place < TRIED ? table_of(&was)[place] : was.all[0];
 	Answer wanted = refusal ? refused_with(refusal) : alone(&c, e);
-	Answer a = heukelvos_event_at(now->table, clocks, place, e);
+	Answer a = heukelvos_event_at(table_of(now), clocks, place, e);
 	if (!same_answer(a, wanted))
 		return wrong("answer", clocks, place, e, a, wanted);
-	if (!untouched(&was, now, a.refusal ? MOST : place))
+	if (!untouched(&was, now, a.refusal ? TRIED : place))
 		return wrong("another clock", clocks, place, e, a, wanted);
-	if (!refusal && !same(now->table[place], c))
-		return show("the table's", now->table[place]), show("by value", c), wrong("the clock", clocks, place, e, a, wanted);
+	if (!refusal && !same(table_of(now)[place], c))
+		return show("the table's", table_of(now)[place]), show("by value", c), wrong("the clock", clocks, place, e, a, wanted);
 	return true;
 }
 
@@ -130,10 +137,9 @@ static bool as_alone(struct around *now, size_t clocks, size_t place, Event e)
 static void fill(struct around *a, Clock (*some)(void))
 {
 	memset(a, 0xa5, sizeof *a);
-	Clock *all = &a->before;
-	for (int n = 0; n < MOST + 2; n++) {
+	for (int n = 0; n < TRIED + 2; n++) {
 		Clock c = some();
-		Clock *to = all + n;
+		Clock *to = &a->all[n];
 		to->seconds = c.seconds, to->micros = c.micros, to->phase = c.phase, to->offset = c.offset, to->frequency = c.frequency;
 		to->adjustment = c.adjustment, to->constant = c.constant, to->updated = c.updated, to->interval = c.interval;
 		to->maxerror = c.maxerror, to->esterror = c.esterror, to->status = c.status, to->kind = c.kind;
@@ -145,6 +151,12 @@ static Clock some_sound(void) { return sound(draw(KINDS), draw(CLOCKS)); }
 static Clock some_unsound(void) { return unsound(draw(KINDS), draw(FAULTS)); }
 static Clock some_of_both(void) { return draw(2) ? some_sound() : some_unsound(); }
 
+/* A number whose low bits a cut would keep: now and then one beyond 32 bits. */
+static uint64_t wide(uint64_t number)
+{
+	return draw(16) ? number : number + (UINT64_C(1) << (32 + draw(32)));
+}
+
 /* Events of a code: accepted ones, ones that a clock of any state refuses, and numbers of another code that must not be looked at. */
 static Event some_event(uint64_t code)
 {
@@ -153,18 +165,18 @@ static Event some_event(uint64_t code)
 	e.stop = draw(2);
 	e.code = code;
 	if (code == HEUKELVOS_EVENT_SETTING) {
-		e.seconds = draw(4) ? draw(UINT64_C(1) << 32) : draw(UINT64_C(1) << 40);
-		e.micros = draw(4) ? draw(1000000) : draw(1 << 21);
+		e.seconds = wide(draw(UINT64_C(1) << 32));
+		e.micros = wide(draw(8) ? draw(1000000) : draw(1 << 21));
 	} else if (code == HEUKELVOS_EVENT_REQUEST) {
-		e.request.mode = draw(72);
-		e.request.offset = (int64_t)draw(300000) - 150000;
+		e.request.mode = wide(draw(72));
+		e.request.offset = (int64_t)(wide(draw(300000)) - 150000);
 		e.request.frequency = (int64_t)draw(UINT64_C(4) * HEUKELVOS_MAX_FREQUENCY) - INT64_C(2) * HEUKELVOS_MAX_FREQUENCY;
-		e.request.maxerror = draw(20000000);
-		e.request.esterror = draw(20000000);
-		e.request.status = draw(6);
-		e.request.constant = draw(6);
+		e.request.maxerror = wide(draw(20000000));
+		e.request.esterror = wide(draw(20000000));
+		e.request.status = wide(draw(6));
+		e.request.constant = wide(draw(6));
 	} else if (code == HEUKELVOS_EVENT_CATCH_UP) {
-		e.ceiling = draw(8) ? draw(3000) : draw(70000);
+		e.ceiling = wide(draw(8) ? draw(3000) : HEUKELVOS_MAX_CEILING - 2 + draw(5));
 	}
 	return e;
 }
@@ -174,11 +186,11 @@ static bool tables(Clock (*some)(void))
 {
 	static const size_t far[] = { 10, 255, 256, 65536, UINT64_C(0x100000000), UINT64_C(0x100000001), SIZE_MAX - 1, SIZE_MAX };
 	static struct around a;
-	for (size_t clocks = 0; clocks <= MOST; clocks++)
-		for (size_t n = 0; n < MOST + 1 + sizeof far / sizeof *far; n++)
+	for (size_t clocks = 0; clocks <= TRIED; clocks++)
+		for (size_t n = 0; n < TRIED + 1 + sizeof far / sizeof *far; n++)
 			for (int turn = 0; turn < 8 * CODES; turn++) {
 				fill(&a, some);
-				if (!as_alone(&a, clocks, n <= MOST ? n : far[n - MOST - 1], some_event(turn % CODES)))
+				if (!as_alone(&a, clocks, n <= TRIED ? n : far[n - TRIED - 1], some_event(turn % CODES)))
 					return false;
 			}
 	return true;
@@ -188,10 +200,10 @@ static bool tables(Clock (*some)(void))
 static bool unknown_codes(void)
 {
 	static struct around a;
-	for (size_t clocks = 0; clocks <= MOST; clocks++)
+	for (size_t clocks = 0; clocks <= TRIED; clocks++)
 		for (uint64_t code = CODES; code <= 300; code++) {
 			fill(&a, some_of_both);
-			if (!as_alone(&a, clocks, draw(MOST + 1), some_event(code)))
+			if (!as_alone(&a, clocks, draw(TRIED + 1), some_event(code)))
 				return false;
 		}
 	for (int width = 8; width < 64; width++)
@@ -203,14 +215,36 @@ static bool unknown_codes(void)
 	return true;
 }
 
+/* Tables of more clocks than are allowed, whose number a cut to 8 or 16 bits would allow: 19, and no byte is written. */
+static bool long_tables(void)
+{
+	static const size_t lengths[] = { 10, 255, 256, 257, 264, 65536, 65537, 65544 };
+	static Clock table[65544], was[65544];
+	memset(table, 0xa5, sizeof table);
+	for (size_t n = 0; n < sizeof table / sizeof *table; n++)
+		table[n] = sound(n % KINDS, n % CLOCKS);
+	memcpy(was, table, sizeof was);
+	for (size_t k = 0; k < sizeof lengths / sizeof *lengths; k++)
+		for (size_t place = 0; place <= lengths[k]; place += 1 + place / 16)
+			for (uint64_t code = 0; code < CODES; code++) {
+				Event e = some_event(code);
+				Answer a = heukelvos_event_at(table, lengths[k], place, e);
+				if (!same_answer(a, refused_with(HEUKELVOS_REFUSED_TABLE)))
+					return wrong("a long table", lengths[k], place, e, a, refused_with(HEUKELVOS_REFUSED_TABLE));
+			}
+	return memcmp(was, table, sizeof was) == 0;
+}
+
+/* Three calls of four go to a clock of the table. */
 static bool random_calls(void)
 {
 	static struct around a;
 	for (int n = 0; n < 200000; n++) {
 		if (n % 64 == 0)
 			fill(&a, random_clock);
-		size_t clocks = draw(16) ? draw(HEUKELVOS_MAX_CLOCKS + 1) : draw(MOST + 1);
-		if (!as_alone(&a, clocks, draw(MOST + 1), some_event(draw(64) ? draw(CODES) : draw(20))))
+		size_t clocks = draw(8) ? 1 + draw(HEUKELVOS_MAX_CLOCKS) : draw(TRIED + 1);
+		size_t place = draw(8) && clocks ? draw(clocks) : draw(TRIED + 1);
+		if (!as_alone(&a, clocks, place, some_event(draw(64) ? draw(CODES) : draw(20))))
 			return false;
 	}
 	return true;
@@ -223,34 +257,45 @@ static bool named_clock_decides(void)
 	for (int n = 0; n < 100000; n++) {
 		fill(&a, random_clock);
 		fill(&b, some_of_both);
-		size_t clocks = draw(MOST + 1), place = draw(MOST + 1);
-		if (place < MOST)
-			b.table[place] = a.table[place];
+		size_t clocks = draw(TRIED + 1), place = draw(8) && clocks ? draw(clocks) : draw(TRIED + 1);
+		if (place < TRIED)
+			table_of(&b)[place] = table_of(&a)[place];
 		Event e = some_event(draw(CODES));
-		Answer x = heukelvos_event_at(a.table, clocks, place, e), y = heukelvos_event_at(b.table, clocks, place, e);
-		if (!same_answer(x, y) || (place < MOST && !same(a.table[place], b.table[place])))
+		Answer x = heukelvos_event_at(table_of(&a), clocks, place, e), y = heukelvos_event_at(table_of(&b), clocks, place, e);
+		if (!same_answer(x, y) || (place < TRIED && !same(table_of(&a)[place], table_of(&b)[place])))
 			return wrong("two tables", clocks, place, e, x, y);
 	}
 	return true;
 }
 
-/* Eight recorders, each of which begins fresh: their events one among another, and each one's own events on a clock by itself. */
-static bool eight_recorders(void)
+/*
+ * Recorders that begin fresh, each on a clock by itself too, to which its own events alone happen. Between two calls recorders change places, one is
+ * exchanged for a fresh one, and some hang on a table of fewer; calls that the rig refuses, on nine clocks or beyond the table, come among the rest.
+ */
+static bool recorders(void)
 {
-	Clock table[HEUKELVOS_MAX_CLOCKS], own[HEUKELVOS_MAX_CLOCKS];
-	for (int n = 0; n < HEUKELVOS_MAX_CLOCKS; n++)
+	Clock table[TRIED], own[TRIED];
+	for (int n = 0; n < TRIED; n++)
 		table[n] = own[n] = fresh(n % KINDS);
 	for (int n = 0; n < 400000; n++) {
-		size_t place = draw(HEUKELVOS_MAX_CLOCKS);
-		Event e = some_event(draw(16) ? HEUKELVOS_EVENT_TICK : draw(CODES));
-		Answer wanted = alone(&own[place], e);
-		Answer a = heukelvos_event_at(table, HEUKELVOS_MAX_CLOCKS, place, e);
-		if (!same_answer(a, wanted))
-			return wrong("a recorder", HEUKELVOS_MAX_CLOCKS, place, e, a, wanted);
+		size_t place = draw(TRIED + 1), first = draw(4) ? 0 : draw(TRIED), clocks = draw(16) ? draw(TRIED - first + 1) : TRIED - first;
+		size_t a = draw(TRIED), b = draw(TRIED);
+		Event e = some_event(draw(16) ? HEUKELVOS_EVENT_TICK : draw(CODES + 1));
+		uint8_t refusal = judged(clocks, place, e);
+		Answer wanted = refusal ? refused_with(refusal) : alone(&own[first + place], e);
+		Answer told = heukelvos_event_at(table + first, clocks, place, e);
+		if (!same_answer(told, wanted))
+			return wrong("a recorder", clocks, place, e, told, wanted);
+		if (draw(64) == 0) {
+			Clock c = table[a], d = own[a];
+			table[a] = table[b], own[a] = own[b];
+			table[b] = c, own[b] = d;
+		}
+		if (draw(4096) == 0)
+			table[a] = own[a] = fresh(draw(KINDS));
+		if (!same(table[a], own[a]))
+			return show("of the rig", table[a]), show("by itself", own[a]), false;
 	}
-	for (int n = 0; n < HEUKELVOS_MAX_CLOCKS; n++)
-		if (!same(table[n], own[n]))
-			return show("of the rig", table[n]), show("by itself", own[n]), false;
 	return true;
 }
 
@@ -259,9 +304,10 @@ int main(void)
 	check("tables of 0 to 9 sound clocks, every place", tables(some_sound));
 	check("tables of 0 to 9 clocks out of range, every place", tables(some_unsound));
 	check("tables of 0 to 9 clocks of both sorts, every place", tables(some_of_both));
+	check("tables of 10 to 65,544 clocks", long_tables());
 	check("codes that stand for no event", unknown_codes());
 	check("200,000 calls on tables of random clocks", random_calls());
 	check("the named clock decides, whatever the others are", named_clock_decides());
-	check("eight recorders, and each by itself", eight_recorders());
+	check("recorders that change places, and each by itself", recorders());
 	return failed ? EXIT_FAILURE : EXIT_SUCCESS;
 }

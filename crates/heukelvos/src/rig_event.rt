@@ -7,8 +7,8 @@ use event::Call;
 use event::Event;
 use request::Request;
 use rig::Answer;
-use rig::event_at;
 use rig::bare_answer;
+use rig::event_at;
 
 // The refusal of a code that stands for no event.
 const UNKNOWN: u8 = 12;
