@@ -1,12 +1,16 @@
 /*
- * Heukelvos for C: a disciplined clock after README.kern and RFC 1589, whose calls are proved. Link the static library beside it:
+ * Heukelvos for C: a disciplined clock after README.kern and RFC 1589, whose calls are proved. Link the static library beside it, and that of a
+ * rig, for heukelvos_event_at:
  *
  *     rt staticlib heukelvos
  *     gcc -Ic program.c target/staticlib/libheukelvos.a
  *
- * x86-64 Linux, C99 or later, or C++. The library has no data that change, allocates nothing, keeps nothing between two calls, and calls
- * nothing (but memcpy, should the compiler want it), so that a timer handler may call it, and several clocks may be used at once. It is
- * user-space code: it uses SSE registers and the red zone below the stack, which a signal handler has saved and a bare interrupt has not.
+ *     rt staticlib heukelvos_rig
+ *     gcc -Ic program.c target/staticlib/libheukelvos_rig.a target/staticlib/libheukelvos.a
+ *
+ * x86-64 Linux, C99 or later, or C++. The libraries have no data that change, allocate nothing, keep nothing between two calls, and call
+ * nothing (but memcpy, should the compiler want it), so that a timer handler may call them, and several clocks may be used at once. They are
+ * user-space code: they use SSE registers and the red zone below the stack, which a signal handler has saved and a bare interrupt has not.
  *
  * Every call takes any values: a clock that is not sound, or an argument out of its range, gets its refusal number, and nothing is changed.
  * Of a call on one clock the lowest number that applies is given; heukelvos_event_at has an order of its own. What C itself must see to:
@@ -218,7 +222,7 @@ uint8_t heukelvos_tick(struct heukelvos_clock *clock);
 struct heukelvos_counted heukelvos_catch_up(struct heukelvos_clock *clock, uint64_t ceiling, bool stop);
 
 /*
- * A rig: several recorders on one host, their clocks in one table, which is lent.
+ * A rig: several recorders on one host, their clocks in one table, which is lent. In libheukelvos_rig.a.
  *
  * heukelvos_event_at: an event on the clock at `place`, from 0, of a table of `clocks` clocks. What it answers, and what becomes of that clock, is
  * what the call for the event does: heukelvos_tick, heukelvos_set, heukelvos_adjust, heukelvos_read or heukelvos_catch_up. Before any clock is

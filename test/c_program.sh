@@ -1,8 +1,9 @@
-# c/heukelvos.h and the library for C: the programs of c/ are built against both and find nothing wrong; that of a lent clock ends where the
+# c/heukelvos.h and the libraries for C: the programs of c/ are built against them and find nothing wrong; that of a lent clock ends where the
 # replay of its history ends. The header's numbers are those of the crates and of docs/REFERENCE.md.
 # shellcheck shell=sh
 
-library=target/staticlib/libheukelvos.a
+# That of a rig comes first: the program takes from the one what the other does not have.
+libraries='target/staticlib/libheukelvos_rig.a target/staticlib/libheukelvos.a'
 
 # Every constant of the header, as 'NAME VALUE', without its prefix.
 of_header() {
@@ -44,14 +45,20 @@ plain_cplusplus() {
 }
 
 built() { # PROGRAM
-    [ -f "$library" ] || { echo "there is no $library: run 'rt staticlib heukelvos'"; return 1; }
-    gcc -std=c11 -O2 -Wall -Wextra -Wpedantic -Werror -Ic -o "$work/$1" "c/$1.c" "$library"
+    for library in $libraries; do
+        [ -f "$library" ] || { echo "there is no $library: run 'rt staticlib' for it"; return 1; }
+    done
+    # shellcheck disable=SC2086
+    gcc -std=c11 -O2 -Wall -Wextra -Wpedantic -Werror -Ic -o "$work/$1" "c/$1.c" $libraries
 }
 
-# It keeps nothing between two calls, and calls nothing: the compiler may want memcpy and the like.
-stands_alone() {
-    nm "$library" >"$work/symbols" || return 1
-    grep -q ' T heukelvos_tick$' "$work/symbols" || { echo "it has no heukelvos_tick"; return 1; }
+# They keep nothing between two calls, and call nothing: the compiler may want memcpy and the like. No name is in both.
+stand_alone() {
+    # shellcheck disable=SC2086
+    nm $libraries >"$work/symbols" || return 1
+    for name in heukelvos_tick heukelvos_event_at; do
+        [ "$(grep -c " T $name\$" "$work/symbols")" -eq 1 ] || { echo "there is not one $name"; return 1; }
+    done
     ! grep -E ' [BCDGSbdgs] | U ' "$work/symbols" | grep -vE ' U mem(cpy|move|set)$'
 }
 
@@ -81,7 +88,7 @@ else
     else
         pass_over "the header in C++" "g++ is not on this machine"
     fi
-    tell "the library stands alone" stands_alone
+    tell "the libraries stand alone" stand_alone
     for program in lent_clock rig; do
         tell "c/$program.c is built" built "$program"
         tell "c/$program.c finds nothing wrong" nothing_wrong "$program"

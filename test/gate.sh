@@ -39,7 +39,7 @@ ended_with() { # STATUS LINE
 all_well() {
     new_gate
     run_gate
-    ended_with 0 '16 passed, 0 failed' || return 1
+    ended_with 0 '17 passed, 0 failed' || return 1
     cat >"$work/wanted" <<'SAID'
 the layout of the files ('rt fmt' makes it): as it should be
 contracts: fine
@@ -49,11 +49,13 @@ a line of the reference for every public function: as it should be
 rt: ok
 rt: the library
 the library for C: as it should be
+rt: the library
+the library for C of a rig: as it should be
 a test: as it should be
-16 passed, 0 failed
+17 passed, 0 failed
 SAID
     diff "$work/wanted" "$work/out" || return 1
-    printf '%s LC_ALL=C\n' rt-fmt contracts reference rt-ci rt-staticlib test | diff - "$gate/calls"
+    printf '%s LC_ALL=C\n' rt-fmt contracts reference rt-ci rt-staticlib rt-staticlib test | diff - "$gate/calls"
 }
 
 # Each part that fails is counted, and one that fails without a word too.
@@ -66,13 +68,13 @@ one_fails() {
         if grep -q -e rt-ci -e test "$gate/calls"; then echo "$part: the rest was tried"; return 1; fi
     done
     for row in \
-        'rt-ci=echo "6 passed, 2 failed"; exit 1=15 passed, 2 failed' \
-        'test=echo "4 passed, 1 failed"; exit 1=15 passed, 1 failed' \
-        'rt-ci=echo "6 passed, 0 failed"; exit 2=15 passed, 1 failed' \
-        'test=echo "5 passed, 0 failed"; exit 1=16 passed, 1 failed' \
-        'rt-staticlib=exit 1=15 passed, 1 failed' \
-        'rt-ci=exit 0=9 passed, 1 failed' \
-        'test=kill -9 $$=11 passed, 1 failed'; do
+        'rt-ci=echo "6 passed, 2 failed"; exit 1=16 passed, 2 failed' \
+        'test=echo "4 passed, 1 failed"; exit 1=16 passed, 1 failed' \
+        'rt-ci=echo "6 passed, 0 failed"; exit 2=16 passed, 1 failed' \
+        'test=echo "5 passed, 0 failed"; exit 1=17 passed, 1 failed' \
+        'rt-staticlib=exit 1=15 passed, 2 failed' \
+        'rt-ci=exit 0=10 passed, 1 failed' \
+        'test=kill -9 $$=12 passed, 1 failed'; do
         part=${row%%=*}
         rest=${row#*=}
         new_gate

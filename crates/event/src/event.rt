@@ -10,8 +10,8 @@ use clock::Reading;
 use clock::TIME_BAD;
 use clock::catch_up;
 use clock::read;
-use clock::run_ticks;
 use clock::set;
+use clock::tick;
 use request::Request;
 use request::adjust;
 
@@ -85,13 +85,11 @@ fn step_many(m: CaughtUp) -> Stepped
     }
 }
 
-// A tick is a run of one, so that `clock::tick` has one caller in the library for C and is inlined there; with two callers it is a call, which
-// copies the clock twice.
 fn step_call(c: Clock, call: Call) -> Stepped
     ensures { λ r. ⌜ r ≡ answerOf c call ⌝ }
 {
     match call {
-        Call::Tick => step_with(run_ticks(c, 1)),
+        Call::Tick => step_with(tick(c)),
         Call::Setting(seconds, micros) => step_with(set(c, seconds, micros)),
         Call::Request(r) => step_with(adjust(c, r)),
         Call::Reading => {

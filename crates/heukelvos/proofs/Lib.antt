@@ -1,3 +1,3 @@
 pub mod InPlace
 pub mod Kept
-pub mod RigEvent
+pub mod OneTick

@@ -1,13 +1,10 @@
 // The clock for programs in C: c/heukelvos.h declares these functions and says what each owes. `rt staticlib heukelvos` writes the library.
 mod lent;
-mod rig_event;
 mod value;
 
 pub use lent::Counted;
 pub use lent::heukelvos_catch_up;
 pub use lent::heukelvos_tick;
-pub use rig_event::CodedEvent;
-pub use rig_event::heukelvos_event_at;
 pub use value::heukelvos_adjust;
 pub use value::heukelvos_caught_up;
 pub use value::heukelvos_fresh;

@@ -37,24 +37,13 @@ pub extern "C" fn heukelvos_in_range(c: Clock) -> bool
     clock::in_range(c)
 }
 
-// By a catch-up of one tick: `clock::tick` has one caller in the library, `heukelvos_tick`, and a run of one tick another, the rig; so each is put
-// into its caller. With two callers it is a call in both, and copies the clock twice.
+// By a run of one tick: so `clock::tick` has one caller in the library, `heukelvos_tick`, and is put into it. With two it is a call there,
+// and copies the clock twice.
 #[no_mangle]
 pub extern "C" fn heukelvos_ticked(c: Clock) -> Outcome
     ensures { λ r. ⌜ r ≡ tickOf c ⌝ }
 {
-    let r = clock::catch_up(c, 1, false);
-    let next = r.clock;
-    if r.refusal != 0 {
-        return Outcome {
-            refusal: r.refusal,
-            clock: next,
-        };
-    }
-    Outcome {
-        refusal: r.tick_refusal,
-        clock: next,
-    }
+    clock::run_ticks(c, 1)
 }
 
 #[no_mangle]

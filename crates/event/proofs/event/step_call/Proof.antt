@@ -1,14 +1,13 @@
 -- `event::step_call`: each single call is answered by the function for it.
 use borrow.Author.Needs.{needs}
-use Rattle.event.proofs.OneTick.{one-tick}
 use Rattle.event.proofs.event.step_call.Statement.{statement}
 use Rattle.event.proofs.event.step_call.Tie as tie
 
 enum-told : tie.Need-enum-told
 enum-told c = search needs
 
-run-ticks-requires : tie.Need-run-ticks-requires
-run-ticks-requires c κs = search needs
+tick-requires : tie.Need-tick-requires
+tick-requires c κs = search needs
 
 step-with-requires : tie.Need-step-with-requires
 step-with-requires c κs = search needs
@@ -38,7 +37,7 @@ read-requires : tie.Need-read-requires
 read-requires c κs = search needs
 
 returns : tie.Need-returns
-returns c = simp (c .before .before .enum-told .given .1, c .step-with .ensures, c .before .run-ticks .ensures, one-tick)
+returns c = simp (c .before .before .enum-told .given .1, c .step-with .ensures, c .before .tick .ensures)
 
 returns-2 : tie.Need-returns-2
 returns-2 c = simp (c .before .before .before .call .given .1, c .step-with2 .ensures, c .before .set .ensures)
@@ -54,7 +53,7 @@ step-call-spec =
     tie.close
     (tie.spec
     enum-told
-    run-ticks-requires
+    tick-requires
     step-with-requires
     enum-known-call
     set-requires

@@ -1,4 +1,4 @@
--- `heukelvos::rig_event::decode`: each code by its arm.
+-- `heukelvos_rig::rig_event::decode`: each code by its arm.
 use mathlib.Core.Path.{_≡_, refl, ap}
 use Prim.Native.Nat.{ℕ, zero, suc, _<_}
 use native.Mathlib.Omega.{arith}
@@ -7,9 +7,9 @@ use borrow.Author.Needs.{needs}
 use Rattle.event.specs.declared.event.Call.the-variants.{Reading}
 use Rattle.event.specs.declared.event.Event.the-variants.{Call}
 use Rattle.rig.specs.declared.rig.Answer.{Answer}
-use Rattle.heukelvos.specs.declared.rig_event.Decoded.{Decoded}
-use Rattle.heukelvos.proofs.rig_event.decode.Statement.{statement}
-use Rattle.heukelvos.proofs.rig_event.decode.Tie as tie
+use Rattle.heukelvos_rig.specs.declared.rig_event.Decoded.{Decoded}
+use Rattle.heukelvos_rig.proofs.rig_event.decode.Statement.{statement}
+use Rattle.heukelvos_rig.proofs.rig_event.decode.Tie as tie
 
 five : (n : ℕ) → 4 < suc (suc (suc (suc (suc n))))
 five n = omega arith

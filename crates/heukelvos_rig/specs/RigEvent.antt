@@ -11,8 +11,8 @@ use Rattle.event.specs.declared.event.Event.{Event}
 use Rattle.event.specs.declared.event.Event.the-variants.{Call, CatchUp}
 use Rattle.rig.specs.Rig.{bareAnswer, answerAt, tableAt}
 use Rattle.rig.specs.declared.rig.Answer.{Answer}
-use Rattle.heukelvos.specs.declared.rig_event.CodedEvent.{CodedEvent}
-use Rattle.heukelvos.specs.declared.rig_event.Decoded.{Decoded}
+use Rattle.heukelvos_rig.specs.declared.rig_event.CodedEvent.{CodedEvent}
+use Rattle.heukelvos_rig.specs.declared.rig_event.Decoded.{Decoded}
 
 -- document 01: 12 "unknown [..] event code"
 abbrev pub codeRefusal : ℕ → ℕ

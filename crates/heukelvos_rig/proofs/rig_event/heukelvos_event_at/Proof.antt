@@ -1,4 +1,4 @@
--- `heukelvos::rig_event::heukelvos_event_at`: a walk of its MIR. Where the code is refused, the table is given up as it came; else it is passed on.
+-- `heukelvos_rig::rig_event::heukelvos_event_at`: a walk of its MIR. Where the code is refused, the table is given up as it came; else it is passed on.
 use mathlib.Core.Path.{_≡_, refl, sym, _∙_, ap, subst}
 use mathlib.Core.Bool.{Bool, true, false, not}
 use Prim.Native.Nat.{ℕ, zero, suc, _<_, _^_}
@@ -45,33 +45,33 @@ use Rattle.state.specs.declared.state.Clock.{Clock}
 use Rattle.event.specs.declared.event.Event.{Event}
 use Rattle.rig.specs.Rig.{answerAt, tableAt}
 use Rattle.rig.specs.declared.rig.Answer.{Answer}
-use Rattle.heukelvos.specs.RigEvent.{codeRefusal, eventOf, decodedOf, codedAnswerAt, codedTableAt}
-use Rattle.heukelvos.specs.declared.rig_event.CodedEvent.{CodedEvent}
-use Rattle.heukelvos.specs.declared.rig_event.Decoded.{Decoded}
+use Rattle.heukelvos_rig.specs.RigEvent.{codeRefusal, eventOf, decodedOf, codedAnswerAt, codedTableAt}
+use Rattle.heukelvos_rig.specs.declared.rig_event.CodedEvent.{CodedEvent}
+use Rattle.heukelvos_rig.specs.declared.rig_event.Decoded.{Decoded}
 use Rattle.state.proofs.state.Clock as T
 use Rattle.event.proofs.event.Event as E
 use Rattle.event.proofs.event.Event.Laws as E′
 use Rattle.rig.proofs.rig.Answer as N
 use Rattle.rig.proofs.rig.Answer.Laws as N′
-use Rattle.heukelvos.proofs.rig_event.CodedEvent as X
-use Rattle.heukelvos.proofs.rig_event.CodedEvent.Laws as X′
-use Rattle.heukelvos.proofs.rig_event.Decoded as D
-use Rattle.heukelvos.proofs.rig_event.Decoded.Laws as D′
-use Rattle.heukelvos.proofs.rig_event.decode as judge
-use Rattle.heukelvos.proofs.rig_event.decode.Symbol as judge-def
-use Rattle.heukelvos.proofs.rig_event.decode.Symbol.{name as #judge}
-use Rattle.heukelvos.proofs.rig_event.decode.Met as judge-thm
+use Rattle.heukelvos_rig.proofs.rig_event.CodedEvent as X
+use Rattle.heukelvos_rig.proofs.rig_event.CodedEvent.Laws as X′
+use Rattle.heukelvos_rig.proofs.rig_event.Decoded as D
+use Rattle.heukelvos_rig.proofs.rig_event.Decoded.Laws as D′
+use Rattle.heukelvos_rig.proofs.rig_event.decode as judge
+use Rattle.heukelvos_rig.proofs.rig_event.decode.Symbol as judge-def
+use Rattle.heukelvos_rig.proofs.rig_event.decode.Symbol.{name as #judge}
+use Rattle.heukelvos_rig.proofs.rig_event.decode.Met as judge-thm
 use Rattle.rig.proofs.event_at as callee
 use Rattle.rig.proofs.event_at.Symbol as callee-def
 use Rattle.rig.proofs.event_at.Symbol.{name as #callee}
 use Rattle.rig.proofs.event_at.Met as callee-thm
 use Rattle.rig.proofs.Answered.{is-value, answered}
 use Rattle.rig.proofs.LentTable.{Left, ends, given-up-whole, meets}
-use Rattle.heukelvos.proofs.rig_event.heukelvos_event_at.Key.{name as #this}
-use Rattle.heukelvos.proofs.rig_event.heukelvos_event_at as f
-use Rattle.heukelvos.proofs.rig_event.heukelvos_event_at.Statement as stated
-use Rattle.heukelvos.proofs.rig_event.heukelvos_event_at.Code as code
-use Rattle.heukelvos.proofs.rig_event.heukelvos_event_at.Code.Mir as mir
+use Rattle.heukelvos_rig.proofs.rig_event.heukelvos_event_at.Key.{name as #this}
+use Rattle.heukelvos_rig.proofs.rig_event.heukelvos_event_at as f
+use Rattle.heukelvos_rig.proofs.rig_event.heukelvos_event_at.Statement as stated
+use Rattle.heukelvos_rig.proofs.rig_event.heukelvos_event_at.Code as code
+use Rattle.heukelvos_rig.proofs.rig_event.heukelvos_event_at.Code.Mir as mir
 
 -- ---- what the contract says, by the refusal of the code
 accepted : (n : ℕ) → T (not (not (eqb n 0))) → eqb n 0 ≡ true
@@ -246,5 +246,5 @@ heukelvos-event-at-spec 𝓤 H 𝓜 𝓖 𝓡 =
     entered 𝓤 H (tripleOf 𝓤 H (𝓖 .A) f.signature (f.spec 𝓤 H (𝓖 .A) (𝓜 .mem) (𝓡 .run)))
     (tables 𝓤 H 𝓜 𝓡 code.env .C) (tables 𝓤 H 𝓜 𝓡 code.env .Λ) #this code.function (code.unfolded 𝓤 H 𝓜 𝓡)
     (met 𝓤 H (𝓖 .A) (givenOf 𝓤 H 𝓜 𝓖) (𝓜 .mem) (𝓡 .run) (tablesOf 𝓤 H 𝓜 (tables 𝓤 H 𝓜 𝓡 code.env))
-    (cited 𝓤 H (Judge 𝓤 H (𝓖 .A) (𝓜 .mem) (𝓡 .run)) 𝓜 𝓡 code.env #judge judge-def.routine code.calls-heukelvos·rig-event·decode (judge-thm.met 𝓤 H 𝓜 𝓖 𝓡))
+    (cited 𝓤 H (Judge 𝓤 H (𝓖 .A) (𝓜 .mem) (𝓡 .run)) 𝓜 𝓡 code.env #judge judge-def.routine code.calls-heukelvos-rig·rig-event·decode (judge-thm.met 𝓤 H 𝓜 𝓖 𝓡))
     (cited 𝓤 H (Callee 𝓤 H (𝓖 .A) (𝓜 .mem) (𝓡 .run)) 𝓜 𝓡 code.env #callee callee-def.routine code.calls-rig·event-at (callee-thm.met 𝓤 H 𝓜 𝓖 𝓡)))

@@ -10,8 +10,8 @@ use Rattle.state.specs.declared.state.Clock.{Clock}
 use Rattle.rig.specs.Rig.{bareAnswer}
 use Rattle.rig.specs.declared.rig.Answer.{Answer}
 use Rattle.rig.proofs.OneClock.{refused-leaves-all}
-use Rattle.heukelvos.specs.RigEvent.{codeRefusal, eventOf, codedAnswerAt, codedTableAt, CodedCall, EveryCodedCall}
-use Rattle.heukelvos.specs.declared.rig_event.CodedEvent.{CodedEvent}
+use Rattle.heukelvos_rig.specs.RigEvent.{codeRefusal, eventOf, codedAnswerAt, codedTableAt, CodedCall, EveryCodedCall}
+use Rattle.heukelvos_rig.specs.declared.rig_event.CodedEvent.{CodedEvent}
 
 -- the only number of a code
 twelve : (b : Bool) → eqb (refuse b 12 0) 0 ≡ false → refuse b 12 0 ≡ 12

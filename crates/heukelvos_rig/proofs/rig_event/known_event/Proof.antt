@@ -1,10 +1,10 @@
--- `heukelvos::rig_event::known_event`: refusal 0, and the event.
+-- `heukelvos_rig::rig_event::known_event`: refusal 0, and the event.
 use mathlib.Core.Path.{ap}
 use borrow.Author.Needs.{needs}
 use Rattle.rig.specs.declared.rig.Answer.{Answer}
-use Rattle.heukelvos.specs.declared.rig_event.Decoded.{Decoded}
-use Rattle.heukelvos.proofs.rig_event.known_event.Statement.{statement}
-use Rattle.heukelvos.proofs.rig_event.known_event.Tie as tie
+use Rattle.heukelvos_rig.specs.declared.rig_event.Decoded.{Decoded}
+use Rattle.heukelvos_rig.proofs.rig_event.known_event.Statement.{statement}
+use Rattle.heukelvos_rig.proofs.rig_event.known_event.Tie as tie
 
 bare-answer-requires : tie.Need-bare-answer-requires
 bare-answer-requires c κs = search needs

@@ -1,6 +1,6 @@
 // An event on one clock of a lent table. The event is a code and numbers, since an enum cannot cross to C.
 ghost use mathlib.Core.Path.{_≡_};
-ghost use Rattle.heukelvos.specs.RigEvent.{codedAnswerAt, codedTableAt, decodedOf, known};
+ghost use Rattle.heukelvos_rig.specs.RigEvent.{codedAnswerAt, codedTableAt, decodedOf, known};
 use clock::AskedMicros;
 use clock::Clock;
 use event::Call;
