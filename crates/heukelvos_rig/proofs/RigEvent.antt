@@ -1,5 +1,5 @@
 -- A call with a code, by whether the code is known.
-use mathlib.Core.Path.{_≡_, refl, sym, _∙_, ap}
+use mathlib.Core.Path.{_≡_, refl, ap}
 use mathlib.Core.Bool.{Bool, true, false, true≢false}
 use mathlib.Core.List.{List}
 use Prim.Native.Nat.{ℕ}
@@ -8,7 +8,6 @@ use borrow.Author.Tests.{eqb-true, eqb-false}
 use Rattle.state.specs.Refusal.{refuse}
 use Rattle.state.specs.declared.state.Clock.{Clock}
 use Rattle.rig.specs.Rig.{bareAnswer}
-use Rattle.rig.specs.declared.rig.Answer.{Answer}
 use Rattle.rig.proofs.OneClock.{refused-leaves-all}
 use Rattle.heukelvos_rig.specs.RigEvent.{codeRefusal, eventOf, codedAnswerAt, codedTableAt, CodedCall, EveryCodedCall}
 use Rattle.heukelvos_rig.specs.declared.rig_event.CodedEvent.{CodedEvent}

@@ -3,3 +3,4 @@ pub mod LentTable
 pub mod OneClock
 pub mod Others
 pub mod Place
+pub mod Refusals

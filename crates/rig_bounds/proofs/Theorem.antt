@@ -23,7 +23,7 @@ use Rattle.bounds.proofs.Theorem.{demand3}
 use Rattle.rig.specs.Rig.{tableRefusal, clockAt, answered}
 use Rattle.rig.specs.declared.rig.Answer.{Answer}
 use Rattle.rig.proofs.OneClock.{answer-passed, next-passed, table-kept, others-always-stay}
-use Rattle.rig_bounds.specs.Demand.{RigCall, PlacedEvent, rigAnswer, tableAfter, clockBefore, clockBehind, reaches, ownEvents, OnlyTheseChange, AsAlone, EachAsAlone, ReadingOf, ReadingsNear, ReadingsForward, Demand3OfEveryRig, callsInTurn, OneTable}
+use Rattle.rig_bounds.specs.Demand.{RigCall, rigAnswer, tableAfter, clockBefore, clockBehind, reaches, ownEvents, OnlyTheseChange, AsAlone, EachAsAlone, ReadingOf, ReadingsNear, ReadingsForward, Demand3OfEveryRig, callsInTurn, OneTable}
 
 -- ---- one call
 
