@@ -1,8 +1,11 @@
 /*
- * A program that hangs several recorders on one host, and holds heukelvos_event_at to c/heukelvos.h: a line for each check, and exit status 1
- * where one fails. test/c_program.sh builds and runs it.
+ * A program that hangs several recorders on one host, and holds heukelvos_event_at to c/heukelvos.h. test/c_program.sh builds and runs it.
  *
- * Every call is compared with the call by value on the one clock, and the rest of the memory around the table byte for byte.
+ *   rig                  compares every call with the call by value on the one clock, and the rest of the memory around the table byte for byte; a
+ *                        line for each check, and exit status 1 where one fails
+ *   rig history PLACE    what a day on a rig of eight did to the recorder at a place, in the text form of bin/history; those at 0, 2, 4 and 6
+ *                        are of the kind that the replay uses
+ *   rig lines PLACE      what the replay must print for that history, from the answers of the same calls
  */
 #include <stdlib.h>
 #include <string.h>
@@ -299,8 +302,91 @@ static bool recorders(void)
 	return true;
 }
 
-int main(void)
+/* An event of a day: mostly sleeps and readings; settings, soon before a day's end or the last second; requests, some of them bad. */
+static Event of_a_day(void)
 {
+	Event e = { .code = HEUKELVOS_EVENT_CATCH_UP, .ceiling = draw(4) ? draw(300) : draw(3000) };
+	switch (draw(24)) {
+	case 0:
+		e.code = HEUKELVOS_EVENT_SETTING;
+		e.seconds = draw(8) ? midnight - 4 - draw(8) : HEUKELVOS_LAST_SECOND - draw(20);
+		e.micros = draw(1000100);
+		e.seconds += draw(16) ? 0 : 20;
+		break;
+	case 1:
+	case 2:
+	case 3:
+		e.code = HEUKELVOS_EVENT_REQUEST;
+		e.request.mode = HEUKELVOS_ADJ_OFFSET | HEUKELVOS_ADJ_FREQUENCY | HEUKELVOS_ADJ_TIMECONST;
+		e.request.offset = (int64_t)draw(256200) - 128100;
+		e.request.frequency = (int64_t)draw(UINT64_C(2) * HEUKELVOS_MAX_FREQUENCY + 1) - HEUKELVOS_MAX_FREQUENCY;
+		e.request.constant = draw(40) ? draw(5) : 5;
+		break;
+	case 4:
+	case 5:
+	case 6:
+		e.code = HEUKELVOS_EVENT_REQUEST;
+		e.request.mode = HEUKELVOS_ADJ_STATUS;
+		e.request.status = draw(3) ? HEUKELVOS_TIME_INS + draw(2) : draw(6);
+		break;
+	case 7:
+	case 8:
+	case 9:
+	case 10:
+	case 11:
+	case 12: e.code = HEUKELVOS_EVENT_READING; break;
+	}
+	return e;
+}
+
+static void told_as_event(Event e)
+{
+	if (e.code == HEUKELVOS_EVENT_SETTING)
+		printf("set %" PRIu64 " %" PRIu64 "\n", e.seconds, e.micros);
+	else if (e.code == HEUKELVOS_EVENT_READING)
+		puts("print");
+	else if (e.code == HEUKELVOS_EVENT_CATCH_UP)
+		printf("tick %" PRIu64 "\n", e.ceiling);
+	else if (e.request.mode == HEUKELVOS_ADJ_STATUS)
+		printf("request status %" PRIu64 "\n", e.request.status);
+	else
+		printf("request offset %" PRId64 " frequency %" PRId64 " constant %" PRIu64 "\n", e.request.offset, e.request.frequency, e.request.constant);
+}
+
+static void told_as_line(Event e, Answer a, Clock c)
+{
+	uint8_t label[HEUKELVOS_LABEL_SIZE];
+	if (a.refusal || a.tick_refusal)
+		printf("refused %d\n", a.refusal ? a.refusal : a.tick_refusal);
+	else if (e.code == HEUKELVOS_EVENT_READING && heukelvos_label(c, label, sizeof label) == 0)
+		printf("%.*s %06" PRIu32 " %d\n", (int)sizeof label, (const char *)label, a.reading.micros, a.reading.status);
+}
+
+static void day_on_a_rig(size_t followed, bool history)
+{
+	Clock table[HEUKELVOS_MAX_CLOCKS];
+	for (int n = 0; n < HEUKELVOS_MAX_CLOCKS; n++)
+		table[n] = fresh(n % KINDS);
+	for (int n = 0; n < 60000; n++) {
+		size_t place = draw(HEUKELVOS_MAX_CLOCKS);
+		Event e = of_a_day();
+		Answer a = heukelvos_event_at(table, HEUKELVOS_MAX_CLOCKS, place, e);
+		if (place == followed && history)
+			told_as_event(e);
+		else if (place == followed)
+			told_as_line(e, a, table[place]);
+	}
+}
+
+int main(int argc, char **argv)
+{
+	if (argc == 3 && strlen(argv[2]) == 1 && argv[2][0] >= '0' && argv[2][0] < '0' + HEUKELVOS_MAX_CLOCKS
+	    && (strcmp(argv[1], "history") == 0 || strcmp(argv[1], "lines") == 0)) {
+		day_on_a_rig(argv[2][0] - '0', strcmp(argv[1], "history") == 0);
+		return 0;
+	}
+	if (argc != 1)
+		return fprintf(stderr, "usage: rig [history PLACE | lines PLACE], PLACE from 0 to 7\n"), 2;
 	check("tables of 0 to 9 sound clocks, every place", tables(some_sound));
 	check("tables of 0 to 9 clocks out of range, every place", tables(some_unsound));
 	check("tables of 0 to 9 clocks of both sorts, every place", tables(some_of_both));

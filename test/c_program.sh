@@ -77,6 +77,17 @@ ends_as_the_replay() {
     diff "$work/lines" "$work/wanted"
 }
 
+# A recorder of a rig ends where the replay of its own history ends, whatever the others did: each that is of the replay's kind.
+each_as_its_replay() {
+    for place in 0 2 4 6; do
+        "$work/rig" history "$place" >"$work/events" && "$work/rig" lines "$place" >"$work/wanted" || return 1
+        grep -q ':60Z ' "$work/wanted" && grep -qx 'refused 3' "$work/wanted" && grep -qx 'refused 17' "$work/wanted" || return 1
+        bin/history bytes <"$work/events" >"$work/bytes" || return 1
+        target/bin/replay <"$work/bytes" >"$work/lines" || return 1
+        diff "$work/lines" "$work/wanted" || { echo "the recorder at place $place"; return 1; }
+    done
+}
+
 tell "the header's numbers are the crates'" same_numbers
 tell "the header's refusals are the reference's" same_refusals
 if [ -n "$(no_c)" ]; then
@@ -94,4 +105,5 @@ else
         tell "c/$program.c finds nothing wrong" nothing_wrong "$program"
     done
     tell "c/lent_clock.c ends as the replay of its history" ends_as_the_replay
+    tell "each recorder of c/rig.c ends as the replay of its own history" each_as_its_replay
 fi

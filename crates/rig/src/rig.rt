@@ -12,7 +12,7 @@ use event::step;
 // The most clocks of a table.
 pub const MAX_CLOCKS: usize = 8;
 
-// For callers that learn it as a value.
+// Its contract promises the constant to those who use it by its name.
 pub fn most_clocks() -> usize
     ensures { λ r. ⌜ r ≡ mostClocks ⌝ }
     ensures { λ _. do ⌜ (← ⟦MAX_CLOCKS⟧ .entry) ≡ mostClocks ⌝ }

@@ -52,7 +52,8 @@ ownEvents [] = []
 ownEvents (k ∷ ks) = cond (reaches k) (k .event ∷ ownEvents ks) (ownEvents ks)
 
 -- "that only these calls change": each call gets the clock as the call before left it, and the first gets c. Nothing else is said of the tables: from one
--- call to the next the clock may lie elsewhere, and other recorders may be set, exchanged, hung on or taken off.
+-- call to the next the clock may lie elsewhere, and other recorders may be set, exchanged, hung on or taken off. A call on a table without the clock is none
+-- of the list, since it leaves the clock alone.
 unfoldable pub OnlyTheseChange : Clock → List RigCall → Type 0
 OnlyTheseChange c [] = Unit {0}
 OnlyTheseChange c (k ∷ ks) = (k .at < length (k .table)) × (clockBefore k ≡ c) × OnlyTheseChange (clockBehind k) ks
