@@ -2,7 +2,7 @@
 # replay of its history ends. The header's numbers are those of the crates and of docs/REFERENCE.md.
 # shellcheck shell=sh
 
-# That of a rig comes first: the program takes from the one what the other does not have.
+# No name is in both, and neither needs the other: they may be linked in any order.
 libraries='target/staticlib/libheukelvos_rig.a target/staticlib/libheukelvos.a'
 
 # Every constant of the header, as 'NAME VALUE', without its prefix.
