@@ -1,22 +1,24 @@
 # The items of Rattle's source files, one a line: KIND VISIBILITY PLACE MODULE NAME REST, with a tab between them.
 #
-#   KIND         fn, struct, enum, variant, const, type, mod or use
+#   KIND         fn, struct, enum, variant, const, type, mod, use or ghost (a name of specifications that is brought)
 #   VISIBILITY   pub; or own, also for pub(crate) and the like. A function that is exported to C is pub
 #   PLACE        FILE:LINE
 #   MODULE       CRATE or CRATE::A::B, by the file's name and the modules around the item
-#   NAME         the item's name, TYPE::NAME for a method or a variant; for a use the name that it brings
-#   REST         for a function 'ensures N requires N', the number of its clauses of each kind; for a use the path that it names
+#   NAME         the item's name, TYPE::NAME for a method or a variant; for a use or a ghost use the name that it brings
+#   REST         for a function 'ensures N requires N', the number of its clauses of each kind; for a use the path that it names, for a
+#                ghost use with its dots. A function has more fields: its parameters and result, and then each ensures, the text
+#                between its braces
 #
-# It reads files by name, crates/NAME/src/*.rt; comments, strings and what stands in bodies and clauses are passed over. A file whose braces
-# do not match is not understood: its line is 'lost FILE', and the exit status is 1.
+# It reads files by name, crates/NAME/src/*.rt; comments, strings and what stands in bodies is passed over. A file whose braces do not
+# match is not understood: its line is 'lost FILE', and the exit status is 1.
 
 function emit(kind, visibility, name, rest) {
     print kind "\t" visibility "\t" place "\t" module "\t" name "\t" rest
 }
 
-# The next word of the line, in `word`: a name, a literal, or one byte. 0 at the line's end.
+# The next word of the line, in `word`: a name, a literal, or one byte; `gap` is a space if one stands before it. 0 at the line's end.
 function next_word() {
-    sub(/^[ \t]+/, "", text)
+    if (sub(/^[ \t]+/, "", text)) gap = " "
     if (text == "") return 0
     if (match(text, /^b'([^'\\]|\\[^'][^']*|\\')'/) || match(text, /^b?"([^"\\]|\\.)*"/)) word = "\"\""
     else if (match(text, /^[A-Za-z_0-9]+/)) word = substr(text, 1, RLENGTH)
@@ -85,12 +87,34 @@ function uses(    i, path, base, last, name, start) {
     }
 }
 
+# The names that a ghost use brings: `ghost use A.B.{c, d as e}`.
+function ghosts(    i, path, base, name) {
+    for (i = holds("use") + 1; i <= heads; i++) {
+        if (head[i] == "{") {
+            base = path
+            path = name = ""
+        } else if (head[i] == "," || head[i] == "}") {
+            if (path != "") emit("ghost", "own", name == "" ? path : name, base path)
+            path = name = ""
+        } else if (head[i] == "as") {
+            while (i < heads && head[i + 1] != "," && head[i + 1] != "}") name = name head[++i]
+        } else path = path head[i]
+    }
+}
+
+# A function's parameters and result, with a space between the words.
+function signature(i,    text) {
+    for (; i <= heads; i++) text = text " " head[i]
+    return substr(text, 2)
+}
+
 # An item is whole: at its `;`, or at the brace of its body.
 function item(    i, own) {
     own = owner == "" ? "" : owner "::"
     if (holds("use")) {
-        if (head[1] != "ghost") uses()
-    } else if (i = holds("fn")) emit("fn", visible(), own head[i + 1], "ensures " ensures " requires " requires)
+        if (head[1] == "ghost") ghosts()
+        else uses()
+    } else if (i = holds("fn")) emit("fn", visible(), own head[i + 1], "ensures " ensures " requires " requires "\t" signature(i + 2) said)
     else if (i = holds("mod")) emit("mod", visible(), head[i + 1], "")
     else if (i = holds("struct")) emit("struct", visible(), head[i + 1], "")
     else if (i = holds("enum")) emit("enum", visible(), head[i + 1], "")
@@ -100,6 +124,7 @@ function item(    i, own) {
 
 function fresh_head() {
     heads = ensures = requires = brackets = 0
+    said = ""
     split("", head)
 }
 
@@ -117,7 +142,11 @@ function type_of_impl(    i, angles, name) {
 function clause(    i) {
     for (i = heads; i >= heads - 1; i--) {
         if (head[i] !~ /^(ensures|requires|ghost)$/) continue
-        if (head[i] == "ensures") ensures++
+        if (head[i] == "ensures") {
+            ensures++
+            said = said "\t"
+            saying = 1
+        }
         if (head[i] == "requires") requires++
         heads = i - 1
         return 1
@@ -177,6 +206,8 @@ function closes() {
 function pass() {
     if (word == "{" || word == "(") skipped++
     if (word == "}" || word == ")") skipped--
+    if (skipped == 0) saying = 0
+    if (saying) said = said gap word
     if (variants_of == "") return
     if (skipped == 0) variants_of = ""
     else if (skipped == 1 && word == ",") wanted = 1
@@ -227,7 +258,7 @@ FNR == 1 {
     if (file != "") file_ends()
     file = FILENAME
     module = module_of(file)
-    depth = skipped = deep = listed = 0
+    depth = skipped = deep = listed = saying = 0
     owner = variants_of = ""
     split("", outer)
     fresh_head()
@@ -235,7 +266,11 @@ FNR == 1 {
 
 {
     text = strip($0)
-    while (next_word()) take()
+    gap = " "
+    while (next_word()) {
+        take()
+        gap = ""
+    }
 }
 
 END {

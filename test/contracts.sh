@@ -1,12 +1,29 @@
-# .ci/contracts on planted crates: each public function without an ensures, or with a requires, is refused, and no other.
+# .ci/contracts on planted crates: each public function that no definition promises, or that has a requires, is refused, and no other.
 # shellcheck shell=sh
 
-# A repository of one listed library, whose root is standard input, and a crate that is not listed.
+# A repository of one listed library, whose root is standard input, with some definitions that it brings, and a crate that is not listed.
 plant() { # ROOT-FILE
     rm -rf "$work/planted"
-    mkdir -p "$work/planted/crates/one/src" "$work/planted/crates/unlisted/src" "$work/planted/docs"
+    mkdir -p "$work/planted/crates/one/src" "$work/planted/crates/one/specs" "$work/planted/crates/unlisted/src" "$work/planted/docs"
     echo 'one: # the only one' >"$work/planted/crates.txt"
-    cat >"$work/planted/crates/one/src/$1"
+    {
+        cat
+        echo 'ghost use Rattle.one.specs.Said.{pair, same, most, told, Related, Small, Kept};'
+        echo 'ghost use Rattle.one.specs.Inner.{within};'
+        echo 'ghost use Rattle.one.proofs.Laws.{law};'
+        echo 'ghost use lib.ListN.{length};'
+    } >"$work/planted/crates/one/src/$1"
+    cat >"$work/planted/crates/one/specs/Said.antt" <<'ANTT'
+abbrev pub pair : ℕ → List ℕ
+unfoldable pub same : ℕ → ℕ
+abbrev pub most : ℕ
+abbrev pub told : ℕ → ℕ
+pub record Related (x r : ℕ) : Type 0 where
+pub data Kept (x : ℕ) : Type 0 where
+abbrev pub Small : ℕ → Type 0
+abbrev hidden : ℕ
+ANTT
+    echo 'abbrev pub within : ℕ → ℕ' >"$work/planted/crates/one/specs/Inner.antt"
     echo 'pub fn unseen() {}' >"$work/planted/crates/unlisted/src/lib.rt"
 }
 
@@ -41,7 +58,7 @@ pub(crate) fn within(x: u8) -> u8
 accepted() {
     { printf '%s' "$sound_functions"; echo '// pub fn only_said() {}'; echo '/* pub fn said_too() {} */'; } | plant lib.rt
     status_of .ci/contracts "$work/planted"
-    echo 'contracts: 1 public functions, each with an ensures and none with a requires' >"$work/wanted"
+    echo 'contracts: 1 public functions, each promised by the definitions of specs/ and none with a requires' >"$work/wanted"
     [ "$status" -eq 0 ] && cmp -s "$work/wanted" "$work/out" || shown "not accepted"
 }
 
@@ -71,7 +88,7 @@ RT
     plant lib.rt <<'RT' && complains 'lib.rt:2: bare is public and has no ensures'
 const WORD: &[u8] = b"{ \" //";
 pub fn bare(x: u8) -> u8 { let quote = b'"'; let open = b'{'; x }
-pub fn sound(x: u8) -> u8 ensures { λ r. ⌜ r ≡ x ⌝ } { let quote = b'\''; x }
+pub fn sound(x: u8) -> u8 ensures { λ r. ⌜ r ≡ same x ⌝ } { let quote = b'\''; x }
 RT
 }
 
@@ -79,13 +96,13 @@ with_requires() {
     plant lib.rt <<'RT' && complains 'lib.rt:1: asks is public and has a requires' || return 1
 pub fn asks(x: u8) -> u8
     requires { ⌜ x < 9 ⌝ }
-    ensures { λ r. ⌜ r ≡ x ⌝ }
+    ensures { λ r. ⌜ r ≡ same x ⌝ }
 {
     x
 }
 RT
     plant lib.rt <<'RT' && complains 'lib.rt:1: asks is public and has a requires'
-pub fn asks(x: u8) -> u8 ensures same { λ r. ⌜ r ≡ x ⌝ } requires
+pub fn asks(x: u8) -> u8 ensures same { λ r. ⌜ r ≡ same x ⌝ } requires
 small { ⌜ x < 9 ⌝ } { x }
 RT
 }
@@ -101,7 +118,7 @@ RT
 #[no_mangle]
 pub extern "C" fn given(x: u8) -> u8
     requires { ⌜ x < 9 ⌝ }
-    ensures { λ r. ⌜ r ≡ x ⌝ }
+    ensures { λ r. ⌜ r ≡ same x ⌝ }
 {
     x
 }
@@ -121,7 +138,7 @@ pub struct Cell {
 
 impl Cell {
     pub fn sound(self) -> u8
-        ensures { λ r. ⌜ r ≡ self .value ⌝ }
+        ensures { λ r. ⌜ r ≡ same (self .value) ⌝ }
     {
         self.value
     }
@@ -159,6 +176,61 @@ not_understood() {
     refused_with 2 'items: it is not understood: crates/one/src/lib.rt'
 }
 
+# Each form that a contract may have, one function each.
+honest_forms() {
+    plant lib.rt <<'RT'
+pub fn a(x: u8) -> u8 ensures { λ q. ⌜ q ≡ length (pair (x / most)) .0 ⌝ } { x }
+pub fn b(x: u8) -> u8 ensures { λ r. ⌜ told r ≡ same x ⌝ } { x }
+pub fn c(x: u8) -> u8 ensures { λ r. ⌜ Related x r ⌝ } ensures { λ r. ⌜ r .0 ≤ x ⌝ } { x }
+pub fn d(x: &mut u8) -> u8
+    ensures { λ r. ⌜ (r ≡ same (now (x .entry)))
+        × (now (x .exit) ≡ same (now (x .entry)) .0)
+        × Kept (r .0) (now (x .exit)) ⌝ }
+{ 0 }
+pub fn e(x: &mut [u8], y: &[u8]) ensures { λ _. ⌜ Related (now (x .entry)) (now (x .exit)) ⌝ } { }
+pub fn f() -> u8 ensures { λ r. ⌜ r ≡ most ⌝ } ensures { λ _. do ⌜ (← ⟦MOST⟧ .entry) ≡ most ⌝ } { 4 }
+RT
+    status_of .ci/contracts "$work/planted"
+    [ "$status" -eq 0 ] && grep -q '^contracts: 6 public functions, ' "$work/out" || shown "not accepted"
+}
+
+# A contract that could be of any function, or that no definition carries.
+empty_forms() {
+    while IFS='|' read -r head clauses why; do
+        printf 'pub fn asks%s %s { x }\n' "$head" "$clauses" | plant lib.rt
+        complains "lib.rt:1: asks is public and $why" || return 1
+    done <<'ROWS'
+(x: u8) -> u8|ensures { λ r. ⌜ r ≡ r ⌝ }|says of a thing that it is itself: r ≡ r
+(x: u8) -> u8|ensures { λ r. ⌜ same x ≡ same x ⌝ }|says of a thing that it is itself: same x ≡ same x
+(x: u8) -> u8|ensures { λ r. ⌜ r ≡ same r ⌝ }|says nothing of its result but by itself: r ≡ same r
+(x: u8) -> u8|ensures { λ r. ⌜ told r ≡ same (r .0) ⌝ }|says nothing of its result but by itself: told r ≡ same (r .0)
+(x: u8) -> u8|ensures { λ r. ⌜ r ≡ same x ⌝ } ensures { λ r. ⌜ r ≤ r ⌝ }|says nothing of its result but by itself, or does not name it: r ≤ r
+(x: u8) -> u8|ensures { λ r. ⌜ r ≤ r ⌝ }|says nothing of its result but by itself, or does not name it: r ≤ r
+(x: u8) -> u8|ensures { λ r. ⌜ x < 9 ⌝ }|says nothing of its result but by itself, or does not name it: x < 9
+(x: u8) -> u8|ensures { λ r. ⌜ r ≤ x ⌝ }|says by no definition of specs/ what its result is
+(x: u8) -> u8|ensures { λ r. ⌜ Small r ⌝ }|says nothing of its result but by itself: Small r
+(x: u8) -> u8|ensures { λ r. ⌜ Small x ⌝ }|does not name its result: Small x
+(x: u8) -> u8|ensures { λ r. ⌜ Related x (r .0) ⌝ }|says by no definition of specs/ what its result is
+(x: u8) -> u8|ensures { λ _. ⌜ same x ≡ most ⌝ }|promises neither its result, whole, nor what remains of a thing lent, nor a constant: same x ≡ most
+(x: u8) -> u8|ensures { λ r. ⌜ r .0 ≡ same x ⌝ }|promises neither its result, whole, nor what remains of a thing lent, nor a constant: r .0 ≡ same x
+(x: u8) -> u8|ensures { λ r. ⌜ r ≡ x ⌝ }|says by no definition of specs/ what a thing is: r ≡ x
+(x: u8) -> u8|ensures { λ r. ⌜ r ≡ 0 ⌝ }|says by no definition of specs/ what a thing is: r ≡ 0
+(x: u8) -> u8|ensures { λ r. ⌜ r ≡ law x ⌝ }|says by no definition of specs/ what a thing is: r ≡ law x
+(x: u8) -> u8|ensures { λ r. ⌜ r ≡ within x ⌝ }|says by no definition of specs/ what a thing is: r ≡ within x
+(x: u8) -> u8|ensures { λ r. ⌜ r ≡ hidden ⌝ }|says by no definition of specs/ what a thing is: r ≡ hidden
+(x: u8) -> u8|ensures { λ r. ⌜ r ≡ length x ⌝ }|says by no definition of specs/ what a thing is: r ≡ length x
+(most: u8) -> u8|ensures { λ r. ⌜ r ≡ most ⌝ }|says by no definition of specs/ what a thing is: r ≡ most
+(x: u8) -> u8|ensures { λ r. ⌜ (r ≡ same x) × (r ≡ r) ⌝ }|says of a thing that it is itself: r ≡ r
+(x: u8) -> u8|ensures { λ r. ⌜ r ≡ r → r ≡ same x ⌝ }|has a promise that is no equation, no order and no relation of specs/: r ≡ r → r ≡ same x
+(x: u8) -> u8|ensures { λ r. emp }|has a clause of no known form: emp
+(x: u8) -> u8|ensures { λ _. do ⌜ (← ⟦MOST⟧ .entry) ≡ most ⌝ }|says by no definition of specs/ what its result is
+(x: u8) -> u8|ensures { λ _. ⌜ ⊤ ⌝ }|has a promise that is no equation, no order and no relation of specs/: ⊤
+(x: &mut u8) -> u8|ensures { λ r. ⌜ r ≡ same (now (x .entry)) ⌝ }|does not say what remains of x
+(x: &mut u8) -> u8|ensures { λ _. ⌜ now (x .exit) ≡ most ⌝ }|says by no definition of specs/ what its result is
+(x: &mut u8) -> u8|ensures { λ r. ⌜ now (x .exit) ≡ now (x .exit) ⌝ }|says of a thing that it is itself: now (x .exit) ≡ now (x .exit)
+ROWS
+}
+
 # In the layout of `rt fmt` a plain search finds the public functions too.
 as_many_as_found() {
     found=0
@@ -173,6 +245,8 @@ tell_awks "contracts: sound functions" accepted
 tell_awks "contracts: no ensures" no_ensures
 tell_awks "contracts: an ensures in words alone" only_a_comment
 tell_awks "contracts: a requires" with_requires
+tell_awks "contracts: every form of a promise" honest_forms
+tell_awks "contracts: promises that say nothing" empty_forms
 tell_awks "contracts: functions for C" exported
 tell_awks "contracts: methods" methods
 tell_awks "contracts: private modules and programs" elsewhere
