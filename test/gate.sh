@@ -1,5 +1,5 @@
-# What .ci/run makes of its parts: a copy of it, with parts that only say something. The stand-ins for `rt`, .ci/contracts, .ci/reference
-# and test/run obey files of their names in $gate/orders: lines to say, and the exit status.
+# What .ci/run makes of its parts: a copy of it, with parts that only say something. The stand-ins for `rt`, .ci/contracts, .ci/reference,
+# .ci/promises, .ci/lies and test/run obey files of their names in $gate/orders: lines to say, and the exit status.
 # shellcheck shell=sh
 
 gate=$work/gate
@@ -12,15 +12,20 @@ new_gate() {
 #!/bin/sh
 name=${0##*/}
 [ "$name" != rt ] || name=rt-$1
+[ "$name" != lies ] || name=lies${1:-}
 case $0 in *test/run) name=test ;; esac
 echo "$name LC_ALL=$LC_ALL" >>"$GATE/calls"
 . "$GATE/orders/$name"
 PART
     chmod +x "$gate/kit/part"
-    for link in kit/rt .ci/contracts .ci/reference test/run; do ln -s "$gate/kit/part" "$gate/$link"; done
+    for link in kit/rt .ci/contracts .ci/reference .ci/promises .ci/lies test/run; do ln -s "$gate/kit/part" "$gate/$link"; done
     echo 'exit 0' >"$gate/orders/rt-fmt"
     echo 'echo "contracts: fine"' >"$gate/orders/contracts"
     echo 'echo "reference: fine"' >"$gate/orders/reference"
+    echo 'echo "promises: fine"' >"$gate/orders/promises"
+    echo 'echo "lies: of the right form"' >"$gate/orders/lies--form"
+    echo 'echo "lies: at facts"' >"$gate/orders/lies--logs"
+    echo 'echo "lies: refused"; echo "3 passed, 0 failed"' >"$gate/orders/lies"
     echo 'echo "rt: ok"; echo "7 passed, 0 failed"' >"$gate/orders/rt-ci"
     echo 'echo "rt: the library"' >"$gate/orders/rt-staticlib"
     echo 'echo "a test: as it should be"; echo "5 passed, 0 failed"' >"$gate/orders/test"
@@ -39,48 +44,60 @@ ended_with() { # STATUS LINE
 all_well() {
     new_gate
     run_gate
-    ended_with 0 '17 passed, 0 failed' || return 1
+    ended_with 0 '23 passed, 0 failed' || return 1
     cat >"$work/wanted" <<'SAID'
 the layout of the files ('rt fmt' makes it): as it should be
 contracts: fine
 a contract for every public function: as it should be
 reference: fine
 a line of the reference for every public function: as it should be
+promises: fine
+every promise by its name: as it should be
+lies: of the right form
+the form of every wrong program: as it should be
 rt: ok
+lies: at facts
+every lie of must-fail/ refused at a fact: as it should be
+lies: refused
 rt: the library
 the library for C: as it should be
 rt: the library
 the library for C of a rig: as it should be
 a test: as it should be
-17 passed, 0 failed
+23 passed, 0 failed
 SAID
     diff "$work/wanted" "$work/out" || return 1
-    printf '%s LC_ALL=C\n' rt-fmt contracts reference rt-ci rt-staticlib rt-staticlib test | diff - "$gate/calls"
+    printf '%s LC_ALL=C\n' rt-fmt contracts reference promises lies--form rt-ci lies--logs lies rt-staticlib rt-staticlib test |
+        diff - "$gate/calls"
 }
 
 # Each part that fails is counted, and one that fails without a word too.
 one_fails() {
-    for part in rt-fmt contracts reference; do
+    for part in rt-fmt contracts reference promises lies--form; do
         new_gate
         echo 'echo "what is wrong"; exit 1' >"$gate/orders/$part"
         run_gate
-        ended_with 1 '2 passed, 1 failed' && grep -qx 'what is wrong' "$work/out" || { echo "$part"; return 1; }
+        ended_with 1 '4 passed, 1 failed' && grep -qx 'what is wrong' "$work/out" || { echo "$part"; return 1; }
         if grep -q -e rt-ci -e test "$gate/calls"; then echo "$part: the rest was tried"; return 1; fi
     done
     for row in \
-        'rt-ci=echo "6 passed, 2 failed"; exit 1=16 passed, 2 failed' \
-        'test=echo "4 passed, 1 failed"; exit 1=16 passed, 1 failed' \
-        'rt-ci=echo "6 passed, 0 failed"; exit 2=16 passed, 1 failed' \
-        'test=echo "5 passed, 0 failed"; exit 1=17 passed, 1 failed' \
-        'rt-staticlib=exit 1=15 passed, 2 failed' \
-        'rt-ci=exit 0=10 passed, 1 failed' \
-        'test=kill -9 $$=12 passed, 1 failed'; do
+        'rt-ci=echo "6 passed, 2 failed"; exit 1=18 passed, 2 failed' \
+        'test=echo "4 passed, 1 failed"; exit 1=22 passed, 1 failed' \
+        'rt-ci=echo "6 passed, 0 failed"; exit 2=18 passed, 1 failed' \
+        'test=echo "5 passed, 0 failed"; exit 1=23 passed, 1 failed' \
+        'rt-staticlib=exit 1=21 passed, 2 failed' \
+        'rt-ci=exit 0=12 passed, 1 failed' \
+        'lies--logs=exit 1=22 passed, 1 failed' \
+        'lies=echo "2 passed, 1 failed"; exit 1=22 passed, 1 failed' \
+        'lies=exit 0=20 passed, 1 failed' \
+        'test=kill -9 $$=18 passed, 1 failed'; do
         part=${row%%=*}
         rest=${row#*=}
         new_gate
         echo "${rest%=*}" >"$gate/orders/$part"
         run_gate
         ended_with 1 "${rest##*=}" || { echo "$row"; return 1; }
+        case $part in rt-ci) ! grep -q -e lies--logs -e 'lies LC_ALL' "$gate/calls" || { echo "$row: the lies were tried"; return 1; } ;; esac
     done
 }
 
