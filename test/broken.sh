@@ -1,5 +1,9 @@
-# Every broken script of test/broken.edits is noticed by its test.
+# Every broken version of test/broken.edits, or of the list that EDITS names, is noticed by its test. As many are tried at once as there are processors, at
+# most four, each worker on a copy of its own, which it puts back after each version; they are told in the list's order.
 # shellcheck shell=sh
+
+edits=$work/edits list=${EDITS:-test/broken.edits}
+parts='bin .ci test examples docs crates crates.txt c bench README.md CONTRIBUTING.md'
 
 # Puts one text, which stands there once, in the place of another.
 replace() { # FILE OLD NEW
@@ -11,34 +15,88 @@ replace() { # FILE OLD NEW
             rest = substr(text, at + length(old))
             if (!at || old == "" || index(rest, old)) exit 1
             printf "%s%s%s", substr(text, 1, at - 1), ENVIRON["NEW"], rest
-        }' "$1" >"$work/edited" && cat "$work/edited" >"$1"
+        }' "$1" >"$copy.edited" && cat "$copy.edited" >"$1"
 }
 
-# A copy of what the tests look at. The program is put there last, and so is not built again; nor is the library for C.
+# A copy of what the tests look at, and of the runner beside the one that an edit may break. The program is put there
+# last, and so is not built again; nor are the libraries for C.
 new_copy() {
-    rm -rf "$work/broken"
-    mkdir -p "$work/broken/target/bin"
-    cp -R bin .ci test examples docs crates crates.txt c bench "$work/broken"
-    [ ! -d target/staticlib ] || cp -R target/staticlib "$work/broken/target"
-    cp target/bin/replay "$work/broken/target/bin/replay"
+    mkdir -p "$copy/target/bin"
+    # shellcheck disable=SC2086
+    cp -R $parts "$copy"
+    cp test/run "$copy/target/sound"
+    [ ! -d target/staticlib ] || cp -R target/staticlib "$copy/target"
+    cp target/bin/replay "$copy/target/bin/replay"
+}
+
+# Runs tests on the copy, with one awk, and waits so that a signal is heard.
+tests_on_copy() { # WORD...
+    AWKS='awk' SOUND=$sound "$copy/target/sound" "$@" >"$copy.log" 2>&1 &
+    tests=$!
+    wait "$tests"
 }
 
 # Without an edit every test passes on a copy, so that it is the edit that is noticed.
 sound_copy() {
-    new_copy
+    sound=''
     # shellcheck disable=SC2046
-    AWKS=awk "$work/broken/test/run" $(sed -n 's/^in .*, noticed by //p' test/broken.edits | sort -u)
+    tests_on_copy $(sed -n 's/^in .*, noticed by //p' "$list" | sort -u) || { cat "$copy.log"; return 1; }
 }
 
-# The test must fail on a copy with the edit. One awk is enough for that.
+# The test must fail on a copy with the edit. SOUND names what is known to pass: a program that the edit does not touch is
+# not tried again.
 noticed() { # FILE TEST OLD NEW
-    new_copy
-    replace "$work/broken/$1" "$3" "$4" || { echo "the edit does not fit $1: '$3' does not stand there once"; return 1; }
-    AWKS=awk "$work/broken/test/run" "$2" >"$work/broken.log" 2>&1 && { echo "test/run $2 passes"; return 1; }
-    tail -n 1 "$work/broken.log" | grep -q ' passed, [1-9][0-9]* failed$' || { tail -n 5 "$work/broken.log"; return 1; }
+    replace "$copy/$1" "$3" "$4" || { echo "the edit does not fit $1: '$3' does not stand there once"; return 1; }
+    sound=$top
+    tests_on_copy --first "$2"
+    passes=$?
+    cat "$1" >"$copy/$1"
+    touch "$copy/target/bin/replay"
+    [ "$passes" -ne 0 ] || { echo "test/run $2 passes"; return 1; }
+    tail -n 1 "$copy.log" | grep -q ' passed, [1-9][0-9]* failed$' || { tail -n 5 "$copy.log"; return 1; }
 }
 
-tell "a copy that is not broken" sound_copy
+# Whether the copy is what it was, so that one edit did not stand in another's way.
+put_back() {
+    for part in $parts; do diff -r "$part" "$copy/$part" || return 1; done
+}
+
+# Tries what no other worker has begun, the sound copy first, and says the number of each.
+try_edits() { # WORKER
+    copy=$work/copy$1 tests=''
+    trap '[ -z "$tests" ] || { kill -s TERM "$tests"; wait "$tests"; }; exit 143' TERM
+    new_copy || return 1
+    number=0
+    while [ -d "$edits/$number" ]; do
+        if mkdir "$edits/$number/begun" 2>/dev/null; then
+            { IFS= read -r file && IFS= read -r by && IFS= read -r old && IFS= read -r new; } <"$edits/$number/edit"
+            if [ "$number" -eq 0 ]; then sound_copy; else noticed "$file" "$by" "$old" "$new"; fi >"$edits/$number/told" 2>&1
+            echo $? >"$edits/$number/ended"
+            mv "$edits/$number/ended" "$edits/$number/status"
+            echo "$number"
+        fi
+        number=$((number + 1))
+    done
+    put_back >"$edits/copy$1" 2>&1 && rm "$edits/copy$1"
+    echo end
+}
+
+verdict() { # NUMBER
+    cat "$edits/$1/told"
+    return "$(cat "$edits/$1/status")"
+}
+
+# Writes an edit down under the next number.
+count=0
+note() { # NAME FILE TEST OLD NEW
+    mkdir -p "$edits/$count"
+    echo "$1" >"$edits/$count/name"
+    shift
+    printf '%s\n' "$@" >"$edits/$count/edit"
+    count=$((count + 1))
+}
+
+note "a copy that is not broken" '' '' '' ''
 file='' old=''
 while IFS= read -r row; do
     case $row in
@@ -54,8 +112,26 @@ while IFS= read -r row; do
         if [ "$by" = c_program ] && [ -n "$(no_c)" ]; then
             pass_over "noticed: $wrong ($by)" "$(no_c)"
         else
-            tell "noticed: $wrong ($by)" noticed "$file" "$by" "$old" "${new# }"
+            note "noticed: $wrong ($by)" "$file" "$by" "$old" "${new# }"
         fi
         ;;
     esac
-done <test/broken.edits
+done <"$list"
+
+mkfifo "$edits/lines"
+processors=$(nproc 2>/dev/null || echo 1)
+for worker in 1 2 3 4; do
+    [ "$worker" -le "$processors" ] || continue
+    try_edits "$worker" >"$edits/lines" &
+    workers="$workers $!"
+done
+next=0
+while read -r _; do
+    while [ -f "$edits/$next/status" ]; do
+        tell "$(cat "$edits/$next/name")" verdict "$next"
+        next=$((next + 1))
+    done
+done <"$edits/lines"
+workers=''
+[ "$next" -eq "$count" ] || fault "of $count broken versions only $next were tried"
+for left in "$edits"/copy*; do [ ! -f "$left" ] || tell "a copy is put back" sh -c 'cat "$1"; false' sh "$left"; done

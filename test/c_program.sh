@@ -63,7 +63,7 @@ stand_alone() {
 }
 
 nothing_wrong() { # PROGRAM
-    status_of "$work/$1"
+    status_of_work 60 "$work/$1"
     told=$(grep -c ': as it should be$' "$work/out")
     [ "$status" -eq 0 ] && [ "$told" -eq "$(grep -c '	check("' "c/$1.c")" ] || shown "$told of its checks"
 }
@@ -88,6 +88,12 @@ each_as_its_replay() {
     done
 }
 
+# Where broken versions are tried, SOUND is a folder whose programs are known to be right: whether these files are as there.
+untouched() { # FILE...
+    [ -n "${SOUND:-}" ] || return 1
+    for part in "$@"; do cmp -s "$part" "$SOUND/$part" || return 1; done
+}
+
 tell "the header's numbers are the crates'" same_numbers
 tell "the header's refusals are the reference's" same_refusals
 if [ -n "$(no_c)" ]; then
@@ -101,9 +107,12 @@ else
     fi
     tell "the libraries stand alone" stand_alone
     for program in lent_clock rig; do
+        untouched "c/$program.c" c/clocks.h c/heukelvos.h && { pass_over "c/$program.c" "it is as it was"; continue; }
         tell "c/$program.c is built" built "$program"
         tell "c/$program.c finds nothing wrong" nothing_wrong "$program"
+        case $program in
+        lent_clock) tell "c/lent_clock.c ends as the replay of its history" ends_as_the_replay ;;
+        rig) tell "each recorder of c/rig.c ends as the replay of its own history" each_as_its_replay ;;
+        esac
     done
-    tell "c/lent_clock.c ends as the replay of its history" ends_as_the_replay
-    tell "each recorder of c/rig.c ends as the replay of its own history" each_as_its_replay
 fi

@@ -120,26 +120,45 @@ MOOD
 
 # A signal ends the gate, what it has started and what that has started, and nothing is left behind.
 signal() {
-    for sent in TERM HUP; do
+    for sent in TERM=143 HUP=129 ${hearing:+INT=130}; do
         new_gate
         cat >"$gate/orders/rt-ci" <<'MOOD'
 echo "rt: at work"
 (trap ': >"$GATE/heard"; exit 1' TERM; : >"$GATE/ready"; sleep 30 & wait) &
 wait
 MOOD
-        GATE=$gate PATH=$gate/kit:$PATH TMPDIR=$gate/tmp "$gate/.ci/run" </dev/null >"$work/out" 2>&1 &
+        GATE=$gate PATH=$gate/kit:$PATH TMPDIR=$gate/tmp $hearing "$gate/.ci/run" </dev/null >"$work/out" 2>&1 &
         script=$!
         soon test -f "$gate/ready" || { echo "rt ci was not called"; return 1; }
-        kill -s "$sent" "$script"
+        kill -s "${sent%=*}" "$script"
         wait "$script"
         status=$?
-        [ "$status" -gt 128 ] || { echo "$sent: status $status"; return 1; }
+        [ "$status" -eq "${sent#*=}" ] || { echo "$sent: status $status"; return 1; }
         [ -z "$(ls "$gate/tmp")" ] || { echo "$sent: left behind: $(ls "$gate/tmp")"; return 1; }
         if command -v setsid >/dev/null; then soon test -f "$gate/heard" || { echo "$sent: the proofs go on"; return 1; }; fi
     done
+}
+
+# Where nobody reads its lines any more the gate ends, with what it has started, and leaves nothing behind.
+nobody_reads() {
+    new_gate
+    cat >"$gate/orders/rt-ci" <<'MOOD'
+(trap ': >"$GATE/heard"; exit 1' TERM; : >"$GATE/ready"; sleep 30 & wait) &
+while sleep 0.1 2>/dev/null || sleep 1; do echo "rt: at work"; done
+MOOD
+    mkfifo "$gate/ear"
+    GATE=$gate PATH=$gate/kit:$PATH TMPDIR=$gate/tmp "$gate/.ci/run" </dev/null >"$gate/ear" 2>&1 &
+    script=$!
+    grep -q -m 1 'rt: at work' <"$gate/ear"
+    wait "$script"
+    status=$?
+    [ "$status" -eq 141 ] || { echo "status $status"; return 1; }
+    [ -z "$(ls "$gate/tmp")" ] || { echo "left behind: $(ls "$gate/tmp")"; return 1; }
+    if command -v setsid >/dev/null; then soon test -f "$gate/heard" || { echo "the proofs go on"; return 1; }; fi
 }
 
 tell "the gate where all is well" all_well
 tell "the gate where a part fails" one_fails
 tell "the gate's lines as they come" as_they_come
 tell "a signal to the gate" signal
+tell "the gate whose lines nobody reads" nobody_reads

@@ -1,12 +1,36 @@
-# The exit statuses of bin/history: what is promised for bad usage, a failed read and a failed write.
+# The help and the exit statuses of bin/history: what is promised for bad usage, a failed read, a failed write and a
+# failed tool.
 # shellcheck shell=sh
 
 bad_usage() {
-    for words in '' 'byte' 'bytes text' 'bytes examples/empty.txt' '--help'; do
+    for words in '' 'byte' 'bytes text' 'bytes examples/empty.txt' '--helpful' '--help bytes'; do
         # shellcheck disable=SC2086
         status_of bin/history $words </dev/null
         refused_with 2 'usage: bin/history bytes <TEXT >BYTES | bin/history text <BYTES >TEXT' || { echo "words: $words"; return 1; }
     done
+}
+
+# It says what it does, its exit statuses and an example.
+helps() {
+    for word in -h --help; do
+        status_of bin/history "$word" <&-
+        [ "$status" -eq 0 ] && [ ! -s "$work/said" ] && grep -q '^Histories for the replay program' "$work/out" &&
+            grep -qF 'bin/history bytes <TEXT >BYTES' "$work/out" && grep -q '^Example' "$work/out" &&
+            grep -q 'Exit status: 0; 1 ' "$work/out" || shown "$word" || return 1
+        if grep -q -e '^#' -e 'set -u' "$work/out"; then echo "more than the head of the file"; return 1; fi
+    done
+    status_of sh -c 'exec bin/history --help >/dev/full'
+    refused_with 2 'history: standard output could not be written'
+}
+
+# The example of the help is run, as it stands there: ten seconds are shown.
+example_of_help() {
+    mkdir -p "$work/example"
+    ln -sf "$top/bin" "$work/example"
+    bin/history --help | sed -n '/^Example/,/^Units/s/^  \([a-z}].*\)/\1/p' | grep -v '^bin/' >"$work/example/day.txt"
+    example=$(bin/history --help | sed -n 's/^  \(bin\/history bytes <day.txt [^ ]* && [^ ]* [^ ]*\) .*/\1/p')
+    (cd "$work/example" && sh -c "$example") >"$work/lines" || return 1
+    [ "$(wc -l <"$work/lines")" -eq 10 ] && grep -q '^1970-01-02T00:00:00Z ' "$work/lines" || { cat "$work/example/day.txt" "$work/lines"; return 1; }
 }
 
 failed_write() {
@@ -60,8 +84,25 @@ missing_tool() {
     done
 }
 
+# An awk that fails is a failure, whatever it has written: a status of its own, none of an awk, or a signal.
+failing_awk() {
+    mkdir -p "$work/wrong"
+    printf 'print\n' >"$work/text"
+    for ends in 'exit 2' 'exit 3' 'kill -9 $$'; do
+        printf '#!/bin/sh\ncat >/dev/null\necho nonsense\n%s\n' "$ends" >"$work/wrong/awk"
+        chmod +x "$work/wrong/awk"
+        for word in bytes text; do
+            PATH=$work/wrong:$PATH status_of bin/history "$word" <"$work/text"
+            refused_with 2 'history: awk ended with status' || { echo "$word, $ends"; return 1; }
+        done
+    done
+}
+
 tell "bad usage of bin/history" bad_usage
+tell "the help of bin/history" helps
+tell "the example in the help of bin/history" example_of_help
 tell "bin/history without awk or od" missing_tool
+tell "bin/history with an awk that fails" failing_awk
 tell_awks "bin/history with standard error closed" closed_error
 tell_awks "a failed write of bin/history" failed_write
 tell_awks "a failed read of bin/history" failed_read
