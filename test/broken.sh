@@ -18,15 +18,15 @@ replace() { # FILE OLD NEW
         }' "$1" >"$copy.edited" && cat "$copy.edited" >"$1"
 }
 
-# A copy of what the tests look at, and of the runner beside the one that an edit may break. The program is put there
-# last, and so is not built again; nor are the libraries for C.
+# A copy of what the tests look at, and of the runner beside the one that an edit may break. The programs are put there
+# last, and so are not built again; nor are the libraries for C.
 new_copy() {
     mkdir -p "$copy/target/bin"
     # shellcheck disable=SC2086
     cp -R $parts "$copy"
     cp test/run "$copy/target/sound"
     [ ! -d target/staticlib ] || cp -R target/staticlib "$copy/target"
-    cp target/bin/replay "$copy/target/bin/replay"
+    cp target/bin/replay target/bin/cross_check "$copy/target/bin"
 }
 
 # Runs tests on the copy, with one awk, and waits so that a signal is heard.

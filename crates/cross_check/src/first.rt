@@ -33,6 +33,7 @@ use clock::PhaseUnits;
 use clock::Reading;
 use event::Call;
 use event::Event;
+use event::Stepped;
 use number::Decoded;
 use playback::Filling;
 use playback::Run;
@@ -137,40 +138,53 @@ fn request_of(row: &[u64; ROW]) -> Request {
     }
 }
 
-// The event of a row: code 0 a tick, 1 a setting, 2 a request, 3 a reading, 4 a catch-up.
-fn event_of(row: &[u64; ROW]) -> Event {
+// What the first answered beside what the second did: refusal, count, the refusal of the tick that ended a catch-up, and the clock.
+fn same_answer(m: Many, refusal: u8, count: u64, tick_refusal: u8, c: Clock) -> bool {
+    let same = same_byte(m.refusal, refusal) & same_byte(m.tick_refusal, tick_refusal);
+    same & (m.count == count) & same_clock(m.state, c)
+}
+
+fn same_outcome(m: Many, o: Outcome) -> bool {
+    same_answer(m, o.refusal, 0, 0, o.clock)
+}
+
+fn same_caught_up(m: Many, r: CaughtUp) -> bool {
+    same_answer(m, r.refusal, r.count, r.tick_refusal, r.clock)
+}
+
+// The event of a row by its own call: code 0 a tick, 1 a setting, 2 a request, 3 a reading, 4 a catch-up.
+fn same_called(m: Many, c: Clock, row: &[u64; ROW]) -> bool {
     let code = row[0];
     match code {
-        0 => Event::Call(Call::Tick),
-        1 => Event::Call(Call::Setting(row[1], AskedMicros(row[2]))),
-        2 => Event::Call(Call::Request(request_of(row))),
-        4 => Event::CatchUp(row[1], row[2] == 1),
-        _ => Event::Call(Call::Reading),
+        0 => same_outcome(m, clock::tick(c)),
+        1 => same_outcome(m, clock::set(c, row[1], AskedMicros(row[2]))),
+        2 => same_outcome(m, request::adjust(c, request_of(row))),
+        4 => same_caught_up(m, clock::catch_up(c, row[1], row[2] == 1)),
+        _ => same_answer(m, clock::read(c).refusal, 0, 0, c),
     }
 }
 
-fn single(o: Outcome) -> CaughtUp {
-    let after = o.clock;
-    CaughtUp {
-        refusal: o.refusal,
-        count: 0,
-        tick_refusal: 0,
-        clock: after,
-    }
+// A step of a list, of an event of this code, with what it reads.
+fn same_step(m: Many, code: u64, e: Stepped) -> bool {
+    let same = same_answer(m, e.refusal, e.count, e.tick_refusal, e.clock);
+    same & same_reading(shown(m.refusal, m.state, code), e.reading)
 }
 
-// The event of a row by its own call.
-fn called(c: Clock, row: &[u64; ROW]) -> CaughtUp {
+// The event of a row as a step of a list.
+fn same_stepped(m: Many, c: Clock, row: &[u64; ROW]) -> bool {
     let code = row[0];
     match code {
-        0 => single(clock::tick(c)),
-        1 => single(clock::set(c, row[1], AskedMicros(row[2]))),
-        2 => single(request::adjust(c, request_of(row))),
-        4 => clock::catch_up(c, row[1], row[2] == 1),
-        _ => single(Outcome {
-            refusal: clock::read(c).refusal,
-            clock: c,
-        }),
+        0 => same_step(m, code, event::step(c, Event::Call(Call::Tick))),
+        1 => {
+            let e = Event::Call(Call::Setting(row[1], AskedMicros(row[2])));
+            same_step(m, code, event::step(c, e))
+        }
+        2 => {
+            let e = Event::Call(Call::Request(request_of(row)));
+            same_step(m, code, event::step(c, e))
+        }
+        4 => same_step(m, code, event::step(c, Event::CatchUp(row[1], row[2] == 1))),
+        _ => same_step(m, code, event::step(c, Event::Call(Call::Reading))),
     }
 }
 
@@ -182,25 +196,10 @@ fn same_told(a: Answer, c: Clock) -> bool {
     same & same_reading(shown(a.refusal, a.state, 3), t.reading)
 }
 
-fn same_many(m: Many, r: CaughtUp) -> bool {
-    let same = same_byte(m.refusal, r.refusal) & same_clock(m.state, r.clock);
-    same & (m.count == r.count) & same_byte(m.tick_refusal, r.tick_refusal)
-}
-
 // An event by its own call and as a step of a list, where the second has answered `m`; and the clock that it meets.
 pub(crate) fn same_event(s: State, row: &[u64; ROW], m: Many) -> bool {
     let c = clock_of(s);
-    let mut same = same_told(reading(s), c) & same_many(m, called(c, row));
-    let e = event::step(c, event_of(row));
-    let after = e.clock;
-    let stepped = CaughtUp {
-        refusal: e.refusal,
-        count: e.count,
-        tick_refusal: e.tick_refusal,
-        clock: after,
-    };
-    same = same & same_many(m, stepped);
-    same & same_reading(shown(m.refusal, m.state, row[0]), e.reading)
+    same_told(reading(s), c) & same_called(m, c, row) & same_stepped(m, c, row)
 }
 
 // The ranges' ends, the codes and the units that a caller is told.
@@ -218,6 +217,7 @@ fn same_limits() -> bool {
     let r = playback::run_limits();
     same = same & (r.history == 65536) & (r.line == 30) & (clock::MAX_CEILING == 65536);
     same = same & (l.interval == 1024) & (request::MIN_INTERVAL == 64);
+    same = same & (rig::most_clocks() == 8);
     same & (u.second == 1000000) & (u.day == 86400)
 }
 

@@ -1,10 +1,11 @@
-// Runs a second implementation of documents 01 and 02 beside the first, over pseudo-random and edge cases, and compares every answer to the last bit.
-// One line for each group says how many cases were compared, how many differ, and how often the second implementation gave each answer:
-// 0 for accepted, else the number of the refusal, of the call or of the tick that ended a catch-up. Of lists it also says how many offsets
-// were accepted where there was an earlier one, and of clocks at an edge in how many cases whole units that add up decide the
-// microseconds or the refusal. The last line is the verdict: it ends in `the two agree` where every group has cases and none of them differs,
-// and there were 1,000 such offsets and as many such cases, up and down; else it begins with `cross_check: DIFFER` and names the other groups,
-// with how many cases differ of how many, or with `cross_check: TOO FEW` and says how many of these there were.
+// Runs a second implementation of documents 01 and 02 beside the first, over pseudo-random and edge cases, and compares
+// every answer to the last bit. One line for each group says how many cases were compared, how many differ, and how often
+// the second implementation gave each answer: 0 for accepted, else the number of the refusal, of the call or of the tick
+// that ended a catch-up. Of lists it also says how many offsets were accepted where there was an earlier one, and of
+// clocks at an edge in how many cases whole units that add up decide the microseconds or the refusal. The last line is the
+// verdict. It ends in `the two agree` where none of the cases that are owed is missing and none differs, and there were
+// 1,000 such offsets and as many such cases, up and down; else it begins with `cross_check: DIFFER` and says how many
+// differ in how many groups, whose lines above name them, or with `cross_check: TOO FEW` and says of what, and of how many.
 mod calls;
 mod dates;
 mod devices;
@@ -22,6 +23,7 @@ mod signed;
 
 use crate::calls::Verdict;
 use crate::signed::least;
+use crate::signed::minus;
 use crate::signed::pick;
 use crate::signed::plus;
 use libc::STDOUT_FILENO;
@@ -32,11 +34,12 @@ const TOLD: u64 = 5;
 // How many answers there can be: accepted, and the refusals 1 to 17.
 const ANSWERS: usize = 18;
 
-// The fewest offsets of all lists that are accepted where there was an earlier one: their gain is what the interval moves.
-const FEWEST: u64 = 1000;
+// The cases that are owed, of all groups together.
+const OWED: u64 = 1040575;
 
-// The fewest cases that whole units decide, in either direction.
-const FEWEST_UNITS: u64 = 1000;
+// The fewest offsets of all lists that are accepted where there was an earlier one, whose gain is what the interval moves;
+// and the fewest cases that whole units decide, in either direction.
+const FEWEST: u64 = 1000;
 
 // How many groups there are.
 const GROUPS: usize = 23;
@@ -121,10 +124,14 @@ fn run_case(group: u64, case: u64) -> Verdict {
     }
 }
 
-// A text and a number.
-fn tell(text: [u8; 10], n: u64) {
-    io::write_all(STDOUT_FILENO, &text);
+// A text and a number behind it.
+fn tell(text: &[u8], n: u64) {
+    io::write_all(STDOUT_FILENO, text);
     io::print_decimal(STDOUT_FILENO, n);
+}
+
+fn end_line() {
+    io::write_all(STDOUT_FILENO, b"\n");
 }
 
 fn tell_name(group: u64) {
@@ -133,30 +140,17 @@ fn tell_name(group: u64) {
     io::write_all(STDOUT_FILENO, &names[at..at + 16]);
 }
 
-fn end_line() {
-    io::write_all(STDOUT_FILENO, b"\n");
-}
-
-fn tell_counts(group: u64, t: Tally) {
-    tell_name(group);
-    tell(*b" compared ", t.compared);
-    tell(*b" differed ", t.differ);
-}
-
 fn tell_case(group: u64, case: u64) {
     tell_name(group);
-    tell(*b" differs: ", case);
+    tell(b" differs: ", case);
     end_line();
 }
 
 fn tell_answer(number: u64, times: u64) {
-    if times == 0 {
-        return;
+    if times != 0 {
+        tell(b", ", number);
+        tell(b": ", times);
     }
-    io::write_all(STDOUT_FILENO, b", ");
-    io::print_decimal(STDOUT_FILENO, number);
-    io::write_all(STDOUT_FILENO, b": ");
-    io::print_decimal(STDOUT_FILENO, times);
 }
 
 // How often each answer was given.
@@ -168,36 +162,40 @@ fn tell_answers(met: &[u64; ANSWERS]) {
     }
 }
 
-// Of a group of lists.
-fn tell_offsets(offsets: u64) {
-    if offsets == 0 {
-        return;
-    }
-    io::write_all(STDOUT_FILENO, b"; offsets accepted after an earlier one: ");
-    io::print_decimal(STDOUT_FILENO, offsets);
-}
-
-// Of a group of clocks at an edge.
-fn tell_units(up: u64, down: u64) {
-    if plus(up, down) == 0 {
-        return;
-    }
-    io::write_all(STDOUT_FILENO, b"; decided by whole units, up: ");
-    io::print_decimal(STDOUT_FILENO, up);
-    io::write_all(STDOUT_FILENO, b", down: ");
-    io::print_decimal(STDOUT_FILENO, down);
-}
-
-// How many cases were compared, how many of them differ, the offsets of their lists, and how many whole units decide.
+// What a group came to, or all of them: cases compared and those that differ, groups without such a case, the offsets of
+// lists, and the cases that whole units decide.
 struct Tally {
     compared: u64,
     differ: u64,
+    agreeing: u64,
     offsets: u64,
     up: u64,
     down: u64,
 }
 
-// The counts after one more case.
+fn nothing() -> Tally {
+    Tally {
+        compared: 0,
+        differ: 0,
+        agreeing: 0,
+        offsets: 0,
+        up: 0,
+        down: 0,
+    }
+}
+
+fn joined(a: Tally, b: Tally) -> Tally {
+    Tally {
+        compared: plus(a.compared, b.compared),
+        differ: plus(a.differ, b.differ),
+        agreeing: plus(a.agreeing, b.agreeing),
+        offsets: plus(a.offsets, b.offsets),
+        up: plus(a.up, b.up),
+        down: plus(a.down, b.down),
+    }
+}
+
+// The counts after one more case. Of a group's cases that differ the first are told one by one.
 fn noted(group: u64, case: u64, v: Verdict, met: &mut [u64; ANSWERS], t: Tally) -> Tally {
     let k = (v.refusal % ANSWERS as u64) as usize;
     met[k] = plus(met[k], 1);
@@ -205,139 +203,101 @@ fn noted(group: u64, case: u64, v: Verdict, met: &mut [u64; ANSWERS], t: Tally) 
         0 => (),
         _ => tell_case(group, case),
     }
-    Tally {
-        compared: plus(t.compared, 1),
-        differ: plus(t.differ, pick(v.same, 0, 1)),
-        offsets: plus(t.offsets, v.offsets),
-        up: plus(t.up, v.up),
-        down: plus(t.down, v.down),
+    joined(
+        t,
+        Tally {
+            compared: 1,
+            differ: pick(v.same, 0, 1),
+            agreeing: 0,
+            offsets: v.offsets,
+            up: v.up,
+            down: v.down,
+        },
+    )
+}
+
+// A group's line, and what it came to.
+fn told(group: u64, t: Tally, met: &[u64; ANSWERS]) -> Tally {
+    tell_name(group);
+    tell(b" compared ", t.compared);
+    tell(b" differed ", t.differ);
+    tell_answers(met);
+    if t.offsets != 0 {
+        tell(b"; offsets accepted after an earlier one: ", t.offsets);
     }
+    if plus(t.up, t.down) != 0 {
+        tell(b"; decided by whole units, up: ", t.up);
+        tell(b", down: ", t.down);
+    }
+    end_line();
+    let mut all = t;
+    all.agreeing = pick(t.differ == 0, 1, 0);
+    all
 }
 
 // All cases of a group.
 fn run(group: u64) -> Tally {
     let n = cases_of(group);
     let mut met = [0u64; ANSWERS];
-    let mut t = Tally {
-        compared: 0,
-        differ: 0,
-        offsets: 0,
-        up: 0,
-        down: 0,
-    };
+    let mut t = nothing();
     let mut i: u64 = 0;
     while i < n {
         t = noted(group, i, run_case(group, i), &mut met, t);
         i += 1;
     }
-    tell_counts(group, t);
-    tell_answers(&met);
-    tell_offsets(t.offsets);
-    tell_units(t.up, t.down);
-    end_line();
-    t
+    told(group, t, &met)
 }
 
-fn tell_head() {
-    io::write_all(
-        STDOUT_FILENO,
-        b"cases compared, cases that differ, and how often each answer was given (0: accepted, else the refusal):\n",
-    );
-}
-
-// Whether a group has cases, and none of them differs.
-fn agrees(compared: u64, differ: u64) -> bool {
-    (0 < compared) & (differ == 0)
-}
-
-// Names a group that does not agree, with its counts; of no cases at all too.
-fn tell_difference(group: u64, compared: u64, differ: u64) {
-    if agrees(compared, differ) {
-        return;
-    }
-    io::write_all(STDOUT_FILENO, b"; ");
-    tell_name(group);
-    io::write_all(STDOUT_FILENO, b" ");
-    io::print_decimal(STDOUT_FILENO, differ);
-    io::write_all(STDOUT_FILENO, b" of ");
-    io::print_decimal(STDOUT_FILENO, compared);
-}
-
-fn tell_differences(compared: &[u64; GROUPS], differ: &[u64; GROUPS]) {
-    io::write_all(STDOUT_FILENO, b"cross_check: DIFFER");
-    let mut k: usize = 0;
-    while k < GROUPS {
-        tell_difference(k as u64, compared[k], differ[k]);
-        k += 1;
-    }
+// Too few of something: how many there were, and of how many.
+fn tell_few(what: &[u8], n: u64, of: u64) {
+    io::write_all(STDOUT_FILENO, b"cross_check: TOO FEW ");
+    tell(what, n);
+    tell(b" of ", of);
     end_line();
 }
 
-fn tell_agreement(cases: u64, groups: u64) {
-    io::write_all(STDOUT_FILENO, b"cross_check: ");
-    io::print_decimal(STDOUT_FILENO, cases);
-    io::write_all(STDOUT_FILENO, b" cases in ");
-    io::print_decimal(STDOUT_FILENO, groups);
+fn tell_agreement(t: Tally) {
+    tell(b"cross_check: ", t.compared);
+    tell(b" of ", OWED);
+    tell(b" cases in ", t.agreeing);
     io::write_all(STDOUT_FILENO, b" groups, 0 differ: the two agree\n");
 }
 
-fn tell_too_few(offsets: u64) {
-    io::write_all(
-        STDOUT_FILENO,
-        b"cross_check: TOO FEW offsets accepted after an earlier one: ",
-    );
-    io::print_decimal(STDOUT_FILENO, offsets);
-    io::write_all(STDOUT_FILENO, b" of ");
-    io::print_decimal(STDOUT_FILENO, FEWEST);
+fn tell_difference(t: Tally) {
+    tell(b"cross_check: DIFFER in ", t.differ);
+    tell(b" of ", t.compared);
+    tell(b" cases, in groups: ", minus(GROUPS as u64, t.agreeing));
     end_line();
 }
 
-fn tell_too_few_units(units: u64) {
-    io::write_all(
-        STDOUT_FILENO,
-        b"cross_check: TOO FEW cases decided by whole units, up or down: ",
-    );
-    io::print_decimal(STDOUT_FILENO, units);
-    io::write_all(STDOUT_FILENO, b" of ");
-    io::print_decimal(STDOUT_FILENO, FEWEST_UNITS);
-    end_line();
-}
-
-// The last line. The two agree where every group does, and there were enough offsets, and enough cases that whole units decide.
-fn tell_verdict(compared: &[u64; GROUPS], differ: &[u64; GROUPS], offsets: u64, units: u64) {
-    let mut cases: u64 = 0;
-    let mut agreeing: u64 = 0;
-    let mut k: usize = 0;
-    while k < GROUPS {
-        cases = plus(cases, compared[k]);
-        agreeing = plus(agreeing, pick(agrees(compared[k], differ[k]), 1, 0));
-        k += 1;
-    }
-    let enough = pick(offsets < FEWEST, 2, pick(units < FEWEST_UNITS, 3, 1));
-    match pick(agreeing == GROUPS as u64, enough, 0) {
-        1 => tell_agreement(cases, agreeing),
-        2 => tell_too_few(offsets),
-        3 => tell_too_few_units(units),
-        _ => tell_differences(compared, differ),
+// The last line.
+fn tell_verdict(t: Tally) {
+    let units = least(t.up, t.down);
+    let enough = pick(t.offsets < FEWEST, 2, pick(units < FEWEST, 3, 4));
+    let all = pick(t.compared == OWED, enough, 1);
+    match pick(t.differ == 0, all, 0) {
+        0 => tell_difference(t),
+        1 => tell_few(b"cases: ", t.compared, OWED),
+        2 => tell_few(
+            b"offsets accepted after an earlier one: ",
+            t.offsets,
+            FEWEST,
+        ),
+        3 => tell_few(b"cases decided by whole units, up or down: ", units, FEWEST),
+        _ => tell_agreement(t),
     }
 }
 
 fn main() {
-    tell_head();
-    let mut compared = [0u64; GROUPS];
-    let mut differ = [0u64; GROUPS];
-    let mut offsets: u64 = 0;
-    let mut up: u64 = 0;
-    let mut down: u64 = 0;
-    let mut k: usize = 0;
-    while k < GROUPS {
-        let t = run(k as u64);
-        compared[k] = t.compared;
-        differ[k] = t.differ;
-        offsets = plus(offsets, t.offsets);
-        up = plus(up, t.up);
-        down = plus(down, t.down);
+    io::write_all(
+        STDOUT_FILENO,
+        b"cases compared, cases that differ, and how often each answer was given (0: accepted, else the refusal):\n",
+    );
+    let mut t = nothing();
+    let mut k: u64 = 0;
+    while k < GROUPS as u64 {
+        t = joined(t, run(k));
         k += 1;
     }
-    tell_verdict(&compared, &differ, offsets, least(up, down));
+    tell_verdict(t);
 }

@@ -5,13 +5,19 @@ use Rattle.cross_check.proofs.main.Statement.{statement}
 use Rattle.cross_check.proofs.main.Tie as tie
 
 abbrev Inv-loop : tie.InvT-loop
-Inv-loop compared₀ differ₀ offsets₀ up₀ down₀ k₀ compared differ offsets up down k = k ≤ 23
+Inv-loop t₀ k₀ t k = k ≤ 23
 
 abbrev μ-loop : tie.MeasureT-loop
-μ-loop compared₀ differ₀ offsets₀ up₀ down₀ k₀ compared differ offsets up down k = 23 - k
+μ-loop t₀ k₀ t k = 23 - k
 
-tell-head-requires : tie.Need-tell-head-requires Inv-loop μ-loop
-tell-head-requires c κs = search needs
+slice-aggregate-write-all : tie.Need-slice-aggregate-write-all Inv-loop μ-loop
+slice-aggregate-write-all c = search needs
+
+write-all-requires : tie.Need-write-all-requires Inv-loop μ-loop
+write-all-requires c κs = search needs
+
+nothing-requires : tie.Need-nothing-requires Inv-loop μ-loop
+nothing-requires c κs = search needs
 
 loop-holds : tie.Need-loop-holds Inv-loop μ-loop
 loop-holds c = search needs
@@ -19,26 +25,8 @@ loop-holds c = search needs
 run-requires : tie.Need-run-requires Inv-loop μ-loop
 run-requires c κs = search needs
 
-mul-compared : tie.Need-mul-compared Inv-loop μ-loop
-mul-compared c = search needs
-
-array-write-compared : tie.Need-array-write-compared Inv-loop μ-loop
-array-write-compared c = search needs
-
-mul-differ : tie.Need-mul-differ Inv-loop μ-loop
-mul-differ c = search needs
-
-array-write-differ : tie.Need-array-write-differ Inv-loop μ-loop
-array-write-differ c = search needs
-
-plus-requires : tie.Need-plus-requires Inv-loop μ-loop
-plus-requires c κs = search needs
-
-plus-requires-2 : tie.Need-plus-requires-2 Inv-loop μ-loop
-plus-requires-2 c κs = search needs
-
-plus-requires-3 : tie.Need-plus-requires-3 Inv-loop μ-loop
-plus-requires-3 c κs = search needs
+joined-requires : tie.Need-joined-requires Inv-loop μ-loop
+joined-requires c κs = search needs
 
 add-k : tie.Need-add-k Inv-loop μ-loop
 add-k c = search needs
@@ -48,9 +36,6 @@ loop-less c = search needs
 
 loop-again : tie.Need-loop-again Inv-loop μ-loop
 loop-again c = search needs
-
-least-requires : tie.Need-least-requires Inv-loop μ-loop
-least-requires c κs = search needs
 
 tell-verdict-requires : tie.Need-tell-verdict-requires Inv-loop μ-loop
 tell-verdict-requires c κs = search needs
@@ -64,19 +49,14 @@ main-spec =
     (tie.spec
     Inv-loop
     μ-loop
-    tell-head-requires
+    slice-aggregate-write-all
+    write-all-requires
+    nothing-requires
     loop-holds
     run-requires
-    mul-compared
-    array-write-compared
-    mul-differ
-    array-write-differ
-    plus-requires
-    plus-requires-2
-    plus-requires-3
+    joined-requires
     add-k
     loop-less
     loop-again
-    least-requires
     tell-verdict-requires
     returns)

@@ -13,6 +13,9 @@ abbrev μ-loop : tie.MeasureT-loop
 cases-of-requires : tie.Need-cases-of-requires Inv-loop μ-loop
 cases-of-requires c κs = search needs
 
+nothing-requires : tie.Need-nothing-requires Inv-loop μ-loop
+nothing-requires c κs = search needs
+
 loop-holds : tie.Need-loop-holds Inv-loop μ-loop
 loop-holds c = search needs
 
@@ -31,20 +34,8 @@ loop-less c = search needs
 loop-again : tie.Need-loop-again Inv-loop μ-loop
 loop-again c = search needs
 
-tell-counts-requires : tie.Need-tell-counts-requires Inv-loop μ-loop
-tell-counts-requires c κs = search needs
-
-tell-answers-requires : tie.Need-tell-answers-requires Inv-loop μ-loop
-tell-answers-requires c κs = search needs
-
-tell-offsets-requires : tie.Need-tell-offsets-requires Inv-loop μ-loop
-tell-offsets-requires c κs = search needs
-
-tell-units-requires : tie.Need-tell-units-requires Inv-loop μ-loop
-tell-units-requires c κs = search needs
-
-end-line-requires : tie.Need-end-line-requires Inv-loop μ-loop
-end-line-requires c κs = search needs
+told-requires : tie.Need-told-requires Inv-loop μ-loop
+told-requires c κs = search needs
 
 returns : tie.Need-returns Inv-loop μ-loop
 returns c = search needs
@@ -56,15 +47,12 @@ run-spec =
     Inv-loop
     μ-loop
     cases-of-requires
+    nothing-requires
     loop-holds
     run-case-requires
     noted-requires
     add-i
     loop-less
     loop-again
-    tell-counts-requires
-    tell-answers-requires
-    tell-offsets-requires
-    tell-units-requires
-    end-line-requires
+    told-requires
     returns)
