@@ -16,7 +16,7 @@ use Rattle.clock.specs.Setting.{settingRefusal, settingOf}
 use Rattle.request.specs.Request.{requestRefusal, requested, requestOf}
 use Rattle.event.specs.declared.event.Call.the-variants.{Tick}
 use Rattle.event.specs.declared.event.Event.the-variants.{Call, CatchUp}
-use Rattle.bounds.specs.Calls.{afterBy, countAmong, noneAmong}
+use Rattle.bounds.specs.Calls.{afterBy, countAmongBy, noneAmongBy}
 use Rattle.bounds.specs.Singly.{singleTicks, singlyFrom, asEvents}
 use Rattle.bounds.specs.Book.{bookFrom}
 use Rattle.bounds.specs.Measure.{measureOf}
@@ -29,7 +29,7 @@ not-most : {a b : ℕ} → leb a b ≡ false → a ≤ b → ⊥
 not-most {a} {b} e h = omega (arith, leb-false a b e)
 
 pub shut-out : ShutOutOfEachKind
-unfolding deviceOf measureOf inRange readingOf readingRefusal rolledOver unitIn ticked tickRefusal tickOf ranOf catchUpOf settingRefusal settingOf requestRefusal requested requestOf afterBy countAmong noneAmong singleTicks singlyFrom asEvents bookFrom
+unfolding deviceOf measureOf inRange readingOf readingRefusal rolledOver unitIn ticked tickRefusal tickOf ranOf catchUpOf settingRefusal settingOf requestRefusal requested requestOf afterBy countAmongBy noneAmongBy singleTicks singlyFrom asEvents bookFrom
 shut-out = (
   record {
     refusing = λ near. not-below refl near;

@@ -90,7 +90,7 @@ module _ (start : Clock) (events : List Event) (i : Inv (clockFrom start events)
       let r = read-ok last (i .range) in
       record { accepted = simp r; near = simp r (rw (clock-kind start events) at (near last (bookOn start events) i)) }
 
-  lossless : NothingLost start events
+  lossless : NothingLost stepOf start events
   lossless =
       let r = read-ok last (i .range) in
       record { held = held last (bookOn start events) i; near = simp r (rw (clock-kind start events) at (below last (bookOn start events) i)) }

@@ -81,14 +81,17 @@ pub record SecondBound (answers : Answers) (kind : ℕ) (events : List Event) : 
       → AtRollover answers kind (before ++ asEvents (singleTicks j))
 
 -- "Whichever two readings are taken, with n ticks and neither a setting nor an inserted second between them, the clock has gone
--- forward by at least 3,905 n us"; of the second device "at least 976 n us".
+-- forward by at least 3,905 n us"; of the second device "at least 976 n us". From the time t to the time u (us):
+abbrev pub GoneForward : Measure → ℕ → ℕ → ℕ → Type 0
+GoneForward m n t u = t + m .least * n ≤ u
+
 abbrev pub ThirdBound : Answers → ℕ → List Event → Type 0
 ThirdBound answers kind events =
     (before between later : List Event) → events ≡ before ++ (Call Reading ∷ (between ++ (Call Reading ∷ later)))
     → let c = clockAfter kind (before ++ (Call Reading ∷ [])) in
     neitherSetNorInserted c (singlyFrom c between) ≡ true
-    → toldAfter answers kind before + measureOf kind .least * ticksAmong c (singlyFrom c between)
-    ≤ toldAfter answers kind (before ++ (Call Reading ∷ between))
+    → GoneForward (measureOf kind) (ticksAmong c (singlyFrom c between)) (toldAfter answers kind before)
+    (toldAfter answers kind (before ++ (Call Reading ∷ between)))
 
 -- Demand 3 of what answers a list of events on a fresh clock of a kind.
 pub record Demand3 (answers : Answers) (kind : ℕ) (events : List Event) : Type 0 where
@@ -96,12 +99,16 @@ pub record Demand3 (answers : Answers) (kind : ℕ) (events : List Event) : Type
   pub second : SecondBound answers kind events
   pub third : ThirdBound answers kind events
 
--- What answers is `event::step`, by its promise `r ≡ stepOf c e`.
-pub record Demand3OfEveryList : Type 0 where
+-- Demand 3 of what answers, over all lists.
+pub record Demand3By (answers : Answers) : Type 0 where
   -- "Take any list of ticks, settings, requests and readings, refused ones included, on a clock that starts fresh", and of catch-ups; the clock
   -- is of either kind
-  pub fresh : (kind : ℕ) → kindRange kind ≡ true → (events : List Event) → Demand3 stepOf kind events
+  pub fresh : (kind : ℕ) → kindRange kind ≡ true → (events : List Event) → Demand3 answers kind events
   -- the first bound also "for lists that begin with an accepted setting on any clock: there the book's rules run from that clock"; one that is
   -- out of range accepts none
   pub set : (start : Clock) (s : ℕ) (u : AskedMicros) (events : List Event) → accepted start (Setting s u) ≡ true
-      → FirstBound stepOf start (Call (Setting s u) ∷ events)
+      → FirstBound answers start (Call (Setting s u) ∷ events)
+
+-- What answers is `event::step`, by its promise `r ≡ stepOf c e`.
+abbrev pub Demand3OfEveryList : Type 0
+Demand3OfEveryList = Demand3By stepOf

@@ -6,10 +6,11 @@ use mathlib.Core.Bool.{Bool, true, false, cond}
 use mathlib.Core.List.{List, [], _∷_}
 use Rattle.state.specs.State.{freshClock, Update, updateOf, noUpdate, longestInterval}
 use Rattle.state.specs.declared.state.Clock.{Clock}
+use Rattle.event.specs.Event.{stepOf}
 use Rattle.event.specs.declared.event.Call.{Call}
 use Rattle.event.specs.declared.event.Call.the-variants.{Tick, Setting, Request, Reading}
 use Rattle.event.specs.declared.event.Event.{Event}
-use Rattle.bounds.specs.Calls.{next, accepted, takesOffset, rolls, clockAfter}
+use Rattle.bounds.specs.Calls.{Answers, next, accepted, takesOffset, rolls, clockBy}
 use Rattle.bounds.specs.Singly.{singly}
 
 pub record Since : Type 0 where
@@ -46,5 +47,10 @@ sinceOf kind events = sinceFrom (freshClock kind) noOffset (singly kind events)
 abbrev pub heldUpdate : Since → Update
 heldUpdate n = cond (n .offset) (record { updated = 1; interval = min (n .rollovers) longestInterval }) noUpdate
 
+-- of what answers, after any list of events on a fresh clock of a kind
+abbrev pub IntervalBy : Answers → Type 0
+IntervalBy answers =
+    (kind : ℕ) (events : List Event) → updateOf (clockBy answers kind events) ≡ heldUpdate (sinceOf kind events)
+
 abbrev pub IntervalOfEveryList : Type 0
-IntervalOfEveryList = (kind : ℕ) (events : List Event) → updateOf (clockAfter kind events) ≡ heldUpdate (sinceOf kind events)
+IntervalOfEveryList = IntervalBy stepOf
