@@ -10,3 +10,4 @@ pub mod Theorem
 pub mod Interval
 pub mod Apart
 pub mod ShutOut
+pub mod AlsoShutOut

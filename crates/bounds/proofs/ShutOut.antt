@@ -25,21 +25,21 @@ use Rattle.bounds.specs.Measure.{measureOf}
 use Rattle.bounds.specs.Demand.{AtRollover}
 use Rattle.bounds.specs.WrongClocks.{keepsOffset, asked, ShutOutOfEachKind}
 
-not-below : {a b : ℕ} → ltb a b ≡ false → a < b → ⊥
+pub not-below : {a b : ℕ} → ltb a b ≡ false → a < b → ⊥
 not-below {a} {b} e h = omega (arith, ltb-false a b e)
 
-not-most : {a b : ℕ} → leb a b ≡ false → a ≤ b → ⊥
+pub not-most : {a b : ℕ} → leb a b ≡ false → a ≤ b → ⊥
 not-most {a} {b} e h = omega (arith, leb-false a b e)
 
 not-none : {n : ℕ} → n ≡ 0 → 0 < n → ⊥
 not-none e h = omega (arith, e, h)
 
 -- What the first share has moved at the second rollover, of 2,047,984 offset units in 255 or 1,023 ticks, with nothing taken off.
-kept256 : AtRollover keepsOffset kind256 (asked (asEvents (singleTicks 255))) → ⊥
+pub kept256 : AtRollover keepsOffset kind256 (asked (asEvents (singleTicks 255))) → ⊥
 unfolding deviceOf measureOf inRange readingOf readingRefusal rolledOver unitIn ticked tickRefusal tickOf ranOf catchUpOf settingRefusal settingOf requestRefusal requested requestOf afterBy countAmongBy noneAmongBy singleTicks singlyFrom asEvents bookFrom
 kept256 h = not-most {a = 522235920} {b = 0} refl (h refl)
 
-kept1024 : AtRollover keepsOffset kind1024 (asked (asEvents (singleTicks 1023))) → ⊥
+pub kept1024 : AtRollover keepsOffset kind1024 (asked (asEvents (singleTicks 1023))) → ⊥
 unfolding deviceOf measureOf inRange readingOf readingRefusal rolledOver unitIn ticked tickRefusal tickOf ranOf catchUpOf settingRefusal settingOf requestRefusal requested requestOf afterBy countAmongBy noneAmongBy singleTicks singlyFrom asEvents bookFrom
 kept1024 h = not-most {a = 2095087632} {b = 0} refl (h refl)
 

@@ -15,6 +15,7 @@ use Rattle.state.specs.State.{freshClock, errorsOf, whole, statusOk, statusIns,
 use Rattle.clock.specs.Tick.{carry, rollsOver}
 use Rattle.state.specs.declared.state.Clock.{Clock}
 use Rattle.request.specs.Request.{modeBits}
+use Rattle.request.specs.declared.request.Request as asked
 use Rattle.event.specs.Event.{answerOf}
 use Rattle.event.specs.declared.event.Call.{Call}
 use Rattle.event.specs.declared.event.Call.the-variants as call
@@ -216,10 +217,9 @@ abbrev pub row : List Start → List Stage → Case
 row f gs = record { from = f; stages = gs }
 
 -- a request of this mode, with an offset in us and a time constant, and all else 0
-abbrev pub requests : ℕ → ℤ → ℕ → Call
-requests mode o k =
-    call.Request
-    (record {
+abbrev pub requestFor : ℕ → ℤ → ℕ → asked.Request
+requestFor mode o k =
+    record {
       mode = mode;
       offset = record { 0 = o };
       frequency = record { 0 = pos 0 };
@@ -227,7 +227,10 @@ requests mode o k =
       esterror = record { 0 = 0 };
       status = 0;
       constant = k;
-    })
+    }
+
+abbrev pub requests : ℕ → ℤ → ℕ → Call
+requests mode o k = call.Request (requestFor mode o k)
 
 -- one that selects an offset (us), and nothing else
 abbrev pub asks : ℤ → Call
