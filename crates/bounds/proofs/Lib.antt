@@ -1,4 +1,5 @@
 pub mod Runs
+pub mod BookTicks
 pub mod MeasureLaws
 pub mod Ticked
 pub mod Singly
