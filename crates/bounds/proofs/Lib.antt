@@ -12,3 +12,4 @@ pub mod Interval
 pub mod Apart
 pub mod ShutOut
 pub mod AlsoShutOut
+pub mod Edges
