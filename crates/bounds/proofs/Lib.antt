@@ -12,4 +12,5 @@ pub mod Interval
 pub mod Apart
 pub mod ShutOut
 pub mod AlsoShutOut
+pub mod AsNamed
 pub mod Edges
