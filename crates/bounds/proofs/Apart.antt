@@ -1,5 +1,5 @@
--- Two accepted offsets of a list: the second finds in the clock no more rollovers than lie between them, and no fewer than 64. And the clock's
--- count, which stops at 1,024, judges as all rollovers would.
+-- Two accepted offsets of a list: the second finds in the clock no more rollovers than lie between them, and
+-- no fewer than 64. And the clock's count, which stops at 1,024, judges as all rollovers would.
 use mathlib.Core.Path.{_≡_, refl, sym, ap}
 use mathlib.Core.Bool.{Bool, true, false, _&&_, not, cond, true≢false}
 use mathlib.Core.List.{List, [], _∷_, _++_}

@@ -1,6 +1,7 @@
--- The book's n grows by each accepted tick, and begins anew at each accepted setting: so it is the number of those since the last of these.
-use mathlib.Core.Path.{_≡_, refl, sym, _∙_}
-use mathlib.Core.Bool.{Bool, true, false, not, _&&_, cond, true≢false}
+-- The book's n grows by each accepted tick, and begins anew at each accepted setting: so it is the number of
+-- those since the last of these.
+use mathlib.Core.Path.{_≡_, refl}
+use mathlib.Core.Bool.{Bool, true, false, cond}
 use mathlib.Core.List.{List, [], _∷_}
 use Prim.Native.Nat.{ℕ, _+_}
 use native.Mathlib.Omega.{arith}
@@ -21,7 +22,8 @@ abbrev counted : (set tick : Bool) → ℕ → ℕ
 counted set tick n = cond set 0 (n + cond tick 1 0)
 
 module _ (c : Clock) (b : Book) where
-  tick-n : (t o : Bool) → accepted c call.Tick ≡ t → rollsOver c ≡ o → callBook c call.Tick b .n ≡ counted false t (b .n)
+  tick-n : (t o : Bool) → accepted c call.Tick ≡ t → rollsOver c ≡ o
+      → callBook c call.Tick b .n ≡ counted false t (b .n)
   tick-n true true t o = simp (t, o) refl
   tick-n true false t o = simp (t, o) refl
   tick-n false o t p = simp t (omega arith)
@@ -74,4 +76,5 @@ from-empty c es true h = omega (arith, simp h at (run-n c emptyBook es), all-tic
 from-empty c es false h = simp h at (run-n c emptyBook es)
 
 pub ticks-of-the-book : TicksOfTheBook
-ticks-of-the-book start events = from-empty start (singlyFrom start events) (neverSet start (singlyFrom start events)) refl
+ticks-of-the-book start events =
+    from-empty start (singlyFrom start events) (neverSet start (singlyFrom start events)) refl

@@ -1,12 +1,10 @@
 -- Each number at its edge and beyond: computed.
 use mathlib.Core.Path.{_≡_, refl}
 use mathlib.Core.Bool.{true, false}
-use mathlib.Core.List.{[], _∷_}
-use Prim.Native.Nat.{ℕ, _+_, _-_, _≤_, _<_, _^_}
+use Prim.Native.Nat.{ℕ, _+_, _≤_, _<_}
 use lib.Dec.{leb, ltb}
-use lib.IntN.{pos, negℤ}
 use borrow.Author.Tests.{leb-true, ltb-true}
-use Rattle.state.specs.Device.{kind256, kind1024, deviceOf}
+use Rattle.state.specs.Device.{deviceOf}
 use Rattle.state.specs.State.{inRange}
 use Rattle.clock.specs.Rollover.{rolledOver}
 use Rattle.clock.specs.Tick.{unitIn, ticked, tickRefusal, tickOf}
@@ -18,6 +16,7 @@ use Rattle.bounds.specs.Singly.{singleTicks, singlyFrom}
 use Rattle.bounds.specs.Measure.{measureOf}
 use Rattle.bounds.specs.Book.{bookFrom}
 use Rattle.event.specs.declared.event.Event.the-variants.{CatchUp}
+use Rattle.bounds.specs.Seconds.{OneMoreOrFewer}
 use Rattle.bounds.specs.Edges.{Edge, Edges}
 use Rattle.bounds.proofs.ShutOut.{not-below, not-most}
 use Rattle.bounds.proofs.Ticked.{answers-as}
@@ -28,6 +27,10 @@ below {a} {b} h n = (ltb-true a b h, not-below n)
 
 most : {a b c d : ℕ} → leb a b ≡ true → leb c d ≡ false → Edge (a ≤ b) (c ≤ d)
 most {a} {b} h n = (leb-true a b h, not-most n)
+
+ticks : {kind n k : ℕ} → leb (deviceOf kind .rate) (n + 1) ≡ true → leb n (deviceOf kind .rate + 1) ≡ true
+    → (OneMoreOrFewer kind k → ⊥) → Edge (OneMoreOrFewer kind n) (OneMoreOrFewer kind k)
+ticks l m beyond = (record { least = leb-true _ _ l; most = leb-true _ _ m }, beyond)
 
 pub edges : Edges
 unfolding deviceOf measureOf inRange rolledOver unitIn ticked tickRefusal tickOf ranOf catchUpOf settingRefusal settingOf requestRefusal requested requestOf afterBy singleTicks singlyFrom bookFrom
@@ -43,13 +46,13 @@ edges =
       forward1024 = most refl refl;
       second256 =
           record {
-            fewest = (record { least = leb-true 256 256 refl; most = leb-true 255 257 refl }, λ e. not-most refl (e .least));
-            greatest = (record { least = leb-true 256 258 refl; most = leb-true 257 257 refl }, λ e. not-most refl (e .most));
+            fewest = ticks refl refl (λ e. not-most refl (e .least));
+            greatest = ticks refl refl (λ e. not-most refl (e .most));
           };
       second1024 =
           record {
-            fewest = (record { least = leb-true 1024 1024 refl; most = leb-true 1023 1025 refl }, λ e. not-most refl (e .least));
-            greatest = (record { least = leb-true 1024 1026 refl; most = leb-true 1025 1025 refl }, λ e. not-most refl (e .most));
+            fewest = ticks refl refl (λ e. not-most refl (e .least));
+            greatest = ticks refl refl (λ e. not-most refl (e .most));
           };
       ceiling256 = (answers-as _ (CatchUp 2 true) .0 refl, λ t. not-most refl (t .most));
       ceiling1024 = (answers-as _ (CatchUp 2 true) .0 refl, λ t. not-most refl (t .most));

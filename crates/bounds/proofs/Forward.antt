@@ -1,4 +1,5 @@
--- The third bound: an accepted tick adds at least the least of its device, and no other call but a setting moves the time.
+-- The third bound: an accepted tick adds at least the least of its device, and no other call but a setting
+-- moves the time.
 use mathlib.Core.Path.{_≡_, sym, _∙_}
 use mathlib.Core.Bool.{true, false, not, cond, true≢false}
 use mathlib.Core.List.{List, [], _∷_}

@@ -1,4 +1,5 @@
--- From one rollover to the next: the time since the last one bounds the number of ticks, at every call between.
+-- From one rollover to the next: the time since the last one bounds the number of ticks, at every call
+-- between.
 use mathlib.Core.Path.{_≡_, refl, sym, _∙_}
 use mathlib.Core.Bool.{Bool, true, false, not, cond, true≢false}
 use mathlib.Core.List.{List, [], _∷_}

@@ -34,14 +34,15 @@ not-most {a} {b} e h = omega (arith, leb-false a b e)
 not-none : {n : ℕ} → n ≡ 0 → 0 < n → ⊥
 not-none e h = omega (arith, e, h)
 
--- What the first share has moved at the second rollover, of 2,047,984 offset units in 255 or 1,023 ticks, with nothing taken off.
+-- What the first share has moved at the second rollover, of 2,047,984 offset units in 255 or 1,023 ticks,
+-- with nothing taken off.
 pub kept256 : AtRollover keepsOffset kind256 (asked (asEvents (singleTicks 255))) → ⊥
 unfolding deviceOf measureOf inRange readingOf readingRefusal rolledOver unitIn ticked tickRefusal tickOf ranOf catchUpOf settingRefusal settingOf requestRefusal requested requestOf afterBy countAmongBy noneAmongBy singleTicks singlyFrom asEvents bookFrom
-kept256 h = not-most {a = 522235920} {b = 0} refl (h refl)
+kept256 h = not-most refl (h refl)
 
 pub kept1024 : AtRollover keepsOffset kind1024 (asked (asEvents (singleTicks 1023))) → ⊥
 unfolding deviceOf measureOf inRange readingOf readingRefusal rolledOver unitIn ticked tickRefusal tickOf ranOf catchUpOf settingRefusal settingOf requestRefusal requested requestOf afterBy countAmongBy noneAmongBy singleTicks singlyFrom asEvents bookFrom
-kept1024 h = not-most {a = 2095087632} {b = 0} refl (h refl)
+kept1024 h = not-most refl (h refl)
 
 pub shut-out : ShutOutOfEachKind
 unfolding deviceOf measureOf inRange readingOf readingRefusal rolledOver unitIn ticked tickRefusal tickOf ranOf catchUpOf settingRefusal settingOf requestRefusal requested requestOf afterBy countAmongBy noneAmongBy singleTicks singlyFrom asEvents bookFrom

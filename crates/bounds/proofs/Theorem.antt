@@ -1,4 +1,5 @@
--- Demand 3 holds of every list of events: the invariants of its single calls are those of its clock and book. And nothing of the time is lost.
+-- Demand 3 holds of every list of events: the invariants of its single calls are those of its clock and book.
+-- And nothing of the time is lost.
 use mathlib.Core.Path.{_≡_, ap, subst}
 use mathlib.Core.Bool.{true}
 use mathlib.Core.List.{List, [], _∷_, _++_}

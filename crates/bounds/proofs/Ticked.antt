@@ -1,4 +1,5 @@
--- A catch-up by the single ticks in its place: by induction on the ceiling, the first tick and then the others.
+-- A catch-up by the single ticks in its place: by induction on the ceiling, the first tick and then the
+-- others.
 use mathlib.Core.Path.{_≡_, refl, sym, _∙_, ap}
 use mathlib.Core.Bool.{Bool, true, false, _&&_, true≢false}
 use Prim.Native.Nat.{ℕ, zero, suc, _<_}

@@ -1,5 +1,5 @@
--- Document 02, Req 05, over a whole list: "A request that selects an offset fewer than 64 rollovers after the last accepted one is now refused,
--- number 17 [..] A clock without an earlier update is exempt."
+-- Document 02, Req 05, over a whole list: "A request that selects an offset fewer than 64 rollovers after the
+-- last accepted one is now refused, number 17 [..] A clock without an earlier update is exempt."
 use Prim.Native.Nat.{ℕ, _≤_}
 use mathlib.Core.Path.{_≡_}
 use mathlib.Core.Bool.{Bool, true, _&&_}
@@ -20,8 +20,8 @@ use Rattle.bounds.specs.Interval.{Since, sinceOf}
 abbrev pub tooSoon : Since → asked.Request → Bool
 tooSoon n r = selectsOffset r && n .offset && ltb (n .rollovers) shortestInterval
 
--- Of what answers: after any list of events on a fresh clock of a kind the clock, which holds no more than 1,024 of
--- these rollovers, judges by them all.
+-- Of what answers: after any list of events on a fresh clock of a kind the clock, which holds no more than
+-- 1,024 of these rollovers, judges by them all.
 abbrev pub TooSoonBy : Answers → Type 0
 TooSoonBy answers =
     (kind : ℕ) (events : List Event) (r : asked.Request)
@@ -39,9 +39,9 @@ offsetTaken answers start events r =
 abbrev pub FarApart : ℕ → Type 0
 FarApart rollovers = shortestInterval ≤ rollovers
 
--- So two accepted offsets have at least 64 rollovers between them, unless there is an accepted setting as well:
--- whichever two requests of a list that are accepted and select an offset. The rollovers are those of the rules, and
--- the ticks of catch-ups between them are made singly.
+-- So two accepted offsets have at least 64 rollovers between them, unless there is an accepted setting as
+-- well: whichever two requests of a list that are accepted and select an offset. The rollovers are those of
+-- the rules, and the ticks of catch-ups between them are made singly.
 abbrev pub OffsetsApart : Answers → Clock → List Event → Type 0
 OffsetsApart answers start events =
     (before between later : List Event) (first second : asked.Request)

@@ -1,4 +1,5 @@
--- The book's n, by the calls alone: how many ticks were accepted since the last accepted setting, or since the start where none was.
+-- The book's n, by the calls alone: how many ticks were accepted since the last accepted setting, or since
+-- the start where none was.
 use Prim.Native.Nat.{ℕ}
 use mathlib.Core.Path.{_≡_}
 use mathlib.Core.Bool.{cond}
@@ -10,8 +11,8 @@ use Rattle.bounds.specs.Calls.{next, ticksAmong, neverSet}
 use Rattle.bounds.specs.Singly.{singlyFrom}
 use Rattle.bounds.specs.Demand.{bookOn}
 
--- Of some calls, the first of which gets c: all of their accepted ticks where none is an accepted setting; else the first call is left out,
--- until that is so.
+-- Of some calls, the first of which gets c: all of their accepted ticks where none is an accepted setting;
+-- else the first call is left out, until that is so.
 unfoldable pub ticksSinceSetting : Clock → List Call → ℕ
 ticksSinceSetting c [] = 0
 ticksSinceSetting c (e ∷ es) =

@@ -82,8 +82,8 @@ insertsSecond c = inserts (c .status) (c .seconds + 1)
 abbrev pub deletesSecond : Clock → Bool
 deletesSecond c = deletes (c .status) (c .seconds + 1)
 
--- Of the calls of a list, the first of which gets c: how many are of a sort, and whether none is. Each is judged at
--- the clock that it gets.
+-- Of the calls of a list, the first of which gets c: how many are of a sort, and whether none is. Each is
+-- judged at the clock that it gets.
 unfoldable pub countAmongBy : (Clock → Call → Stepped) → (Clock → Call → Bool) → Clock → List Call → ℕ
 countAmongBy answers sort c [] = 0
 countAmongBy answers sort c (e ∷ es) =

@@ -1,7 +1,8 @@
--- The numbers of the statements over lists, each at its edge: there it holds, and one beyond it fails, on either kind of device.
-use Prim.Native.Nat.{ℕ, suc, _+_, _-_, _*_, _^_}
+-- The numbers of the statements over lists, each at its edge: there it holds, and one beyond it fails, on
+-- either kind of device.
+use Prim.Native.Nat.{ℕ, _+_, _-_, _*_, _^_}
 use mathlib.Core.Path.{_≡_}
-use mathlib.Core.Bool.{Bool, true, false}
+use mathlib.Core.Bool.{true, false}
 use mathlib.Core.List.{List, [], _∷_}
 use lib.IntN.{ℤ, pos, negℤ}
 use Rattle.state.specs.Device.{kind256, kind1024}
@@ -27,30 +28,52 @@ Edge at beyond = at × (beyond → ⊥)
 
 -- a book of this exact time
 abbrev pub exactly : ℤ → Book
-exactly t = record { exact = t; n = 0; frequency = pos 0; share = pos 0; ownShare = pos 0; moved = pos 0; asked = pos 0 }
+exactly t =
+    record {
+      exact = t;
+      n = 0;
+      frequency = pos 0;
+      share = pos 0;
+      ownShare = pos 0;
+      moved = pos 0;
+      asked = pos 0;
+    }
 
--- Of a bound on how far a reading is off: the greatest error that it allows (units of exact time), the reading behind the exact time and ahead.
+-- Of a bound on how far a reading is off: the greatest error that it allows (units of exact time), the
+-- reading behind the exact time and ahead.
 pub record ErrorEdge (bound : Measure → ℕ → Book → Type 0) (kind greatest : ℕ) : Type 0 where
-  pub behind : Edge (bound (measureOf kind) 0 (exactly (pos greatest))) (bound (measureOf kind) 0 (exactly (pos (greatest + 1))))
-  pub ahead : Edge (bound (measureOf kind) 0 (exactly (negℤ (pos greatest)))) (bound (measureOf kind) 0 (exactly (negℤ (pos (greatest + 1)))))
+  pub behind :
+      Edge (bound (measureOf kind) 0 (exactly (pos greatest)))
+      (bound (measureOf kind) 0 (exactly (pos (greatest + 1))))
+  pub ahead :
+      Edge (bound (measureOf kind) 0 (exactly (negℤ (pos greatest))))
+      (bound (measureOf kind) 0 (exactly (negℤ (pos (greatest + 1)))))
 
--- What an offset may have moved the clock (parts of an offset unit) where 1,000 units have been taken off, or have been added.
+-- What an offset may have moved the clock (parts of an offset unit) where 1,000 units have been taken off, or
+-- have been added.
 pub record MovedEdge (kind least greatest : ℕ) : Type 0 where
-  pub under : Edge (MovedAsTaken (measureOf kind) (pos least) (pos 1000)) (MovedAsTaken (measureOf kind) (pos (least - 1)) (pos 1000))
-  pub over : Edge (MovedAsTaken (measureOf kind) (pos greatest) (pos 1000)) (MovedAsTaken (measureOf kind) (pos (greatest + 1)) (pos 1000))
-  pub negative : Edge (MovedAsTaken (measureOf kind) (negℤ (pos greatest)) (negℤ (pos 1000))) (MovedAsTaken (measureOf kind) (negℤ (pos (greatest + 1))) (negℤ (pos 1000)))
+  pub under :
+      Edge (MovedAsTaken (measureOf kind) (pos least) (pos 1000))
+      (MovedAsTaken (measureOf kind) (pos (least - 1)) (pos 1000))
+  pub over :
+      Edge (MovedAsTaken (measureOf kind) (pos greatest) (pos 1000))
+      (MovedAsTaken (measureOf kind) (pos (greatest + 1)) (pos 1000))
+  pub negative :
+      Edge (MovedAsTaken (measureOf kind) (negℤ (pos greatest)) (negℤ (pos 1000)))
+      (MovedAsTaken (measureOf kind) (negℤ (pos (greatest + 1))) (negℤ (pos 1000)))
 
 -- What the clock goes forward in two ticks, at least (us).
 abbrev pub ForwardEdge : ℕ → ℕ → Type 0
-ForwardEdge kind least = Edge (GoneForward (measureOf kind) 2 7 (7 + least)) (GoneForward (measureOf kind) 2 7 (6 + least))
+ForwardEdge kind least =
+    Edge (GoneForward (measureOf kind) 2 7 (7 + least)) (GoneForward (measureOf kind) 2 7 (6 + least))
 
 -- How many ticks a second has.
 pub record SecondEdge (kind least most : ℕ) : Type 0 where
   pub fewest : Edge (OneMoreOrFewer kind least) (OneMoreOrFewer kind (least - 1))
   pub greatest : Edge (OneMoreOrFewer kind most) (OneMoreOrFewer kind (most + 1))
 
--- A catch-up that stops at a rollover: one of two ticks, the second of which rolls over, has made two of two, and is none of ceiling 1. The first starts
--- that much before the end of the second (us).
+-- A catch-up that stops at a rollover: one of two ticks, the second of which rolls over, has made two of two,
+-- and is none of ceiling 1. The first starts that much before the end of the second (us).
 abbrev pub CeilingEdge : ℕ → ℕ → Type 0
 CeilingEdge kind start =
     let c = given (field.kind ≔ kind ∷ field.micros ≔ start ∷ []) in
@@ -61,7 +84,8 @@ CeilingEdge kind start =
 abbrev pub since : ℕ → Since
 since k = record { offset = true; rollovers = k }
 
--- An offset is too soon after 63 rollovers, and not after 64; two have 64 between them; none is too soon without an earlier one, nor is another request.
+-- An offset is too soon after 63 rollovers, and not after 64; two have 64 between them; none is too soon
+-- without an earlier one, nor is another request.
 pub record SoonEdge : Type 0 where
   pub soon : tooSoon (since 63) (requestFor 1 (pos 0) 0) ≡ true
   pub inTime : tooSoon (since 64) (requestFor 1 (pos 0) 0) ≡ false
@@ -76,10 +100,18 @@ pub record IntervalEdge : Type 0 where
   pub beyond : heldUpdate (since 1025) ≡ record { updated = 1; interval = 1024 }
   pub none : heldUpdate (record { offset = false; rollovers = 5 }) ≡ noUpdate
 
--- a tick, an accepted setting, three ticks, two of them in a catch-up, a refused setting, a request and a reading
+-- a tick, an accepted setting, three ticks, two of them in a catch-up, a refused setting, a request and a
+-- reading
 abbrev pub afterASetting : List Event
 afterASetting =
-    Call Tick ∷ Call (set 5 0) ∷ Call Tick ∷ CatchUp 2 false ∷ Call (set 5 1000000) ∷ Call (asks (pos 1)) ∷ Call Reading ∷ []
+    Call Tick
+    ∷ Call (set 5 0)
+    ∷ Call Tick
+    ∷ CatchUp 2 false
+    ∷ Call (set 5 1000000)
+    ∷ Call (asks (pos 1))
+    ∷ Call Reading
+    ∷ []
 
 -- the book's n
 pub record TicksEdge (kind : ℕ) : Type 0 where

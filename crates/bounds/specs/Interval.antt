@@ -1,5 +1,5 @@
--- Document 02, Req 02: "the number of rollovers since the last accepted offset, at most 1,024". What the clock holds of its earlier update
--- after any list of events, by the calls alone.
+-- Document 02, Req 02: "the number of rollovers since the last accepted offset, at most 1,024". What the
+-- clock holds of its earlier update after any list of events, by the calls alone.
 use Prim.Native.Nat.{ℕ, _+_, min}
 use mathlib.Core.Path.{_≡_}
 use mathlib.Core.Bool.{Bool, true, false, cond}
@@ -43,7 +43,8 @@ sinceFrom rules n (e ∷ es) = sinceFrom (next rules e) (callSince rules e n) es
 abbrev pub sinceOf : ℕ → List Event → Since
 sinceOf kind events = sinceFrom (freshClock kind) noOffset (singly kind events)
 
--- the earlier update that a clock holds: none without an offset, and else the rollovers since it, "at most 1,024"
+-- the earlier update that a clock holds: none without an offset, and else the rollovers since it, "at most
+-- 1,024"
 abbrev pub heldUpdate : Since → Update
 heldUpdate n = cond (n .offset) (record { updated = 1; interval = min (n .rollovers) longestInterval }) noUpdate
 

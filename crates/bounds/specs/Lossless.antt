@@ -1,5 +1,6 @@
--- Document 02, Req 06: "Stop losing the frequency's last bits." The time that the clock holds, with what no reading shows of it, is the exact time:
--- nothing is lost at any tick. So a reading is off by less than 1 us, which is more than demand 3 asks for.
+-- Document 02, Req 06: "Stop losing the frequency's last bits." The time that the clock holds, with what no
+-- reading shows of it, is the exact time: nothing is lost at any tick. So a reading is off by less than 1 us,
+-- which is more than demand 3 asks for.
 use Prim.Native.Nat.{ℕ, _+_, _*_, _/_, _<_}
 use mathlib.Core.Path.{_≡_}
 use mathlib.Core.Bool.{true}
@@ -19,7 +20,8 @@ use Rattle.bounds.specs.Measure.{Measure, measureOf}
 use Rattle.bounds.specs.Book.{Book}
 use Rattle.bounds.specs.Demand.{toldFrom, bookOn}
 
--- what a clock holds: seconds and microseconds, the phase, and the leftover, in parts that are a unit of exact time each (units of exact time)
+-- what a clock holds: seconds and microseconds, the phase, and the leftover, in parts that are a unit of
+-- exact time each (units of exact time)
 abbrev pub heldTime : Clock → ℤ
 heldTime c =
     let m = measureOf (c .kind) in

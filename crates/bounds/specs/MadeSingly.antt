@@ -15,8 +15,8 @@ use Rattle.bounds.specs.Singly.{singleTicks, singleCalls, singlyFrom}
 use Rattle.bounds.specs.Book.{bookFrom}
 use Rattle.bounds.specs.Demand.{bookOn}
 
--- Where the single ticks of c end that are answered with a: "until ceiling, rollover or first refusal". The ceiling comes first: at it no
--- refusal is looked for. The only refusal that a tick can meet here is 3.
+-- Where the single ticks of c end that are answered with a: "until ceiling, rollover or first refusal". The
+-- ceiling comes first: at it no refusal is looked for. The only refusal that a tick can meet here is 3.
 pub data EndsAt (c : Clock) (ceiling : ℕ) (stop : Bool) (a : Stepped) : Type 0 where
   atCeiling : a .count ≡ ceiling → a .«tick_refusal» ≡ 0 → EndsAt c ceiling stop a
   atRollover : stop ≡ true → (last : ℕ) → a .count ≡ suc last → rollsOver (after c (singleTicks last)) ≡ true → a .«tick_refusal» ≡ 0

@@ -1,13 +1,16 @@
--- Clocks that the other promises over lists shut out, and the quantifiers of demand 3 itself: for each promise a clock that is wrong in the way
--- that it speaks of, on the devices of one kind alone.
+-- Clocks that the other promises over lists shut out, and the quantifiers of demand 3 itself: for each
+-- promise a clock that is wrong in the way that it speaks of, on the devices of one kind alone.
 use Prim.Native.Nat.{ℕ, _+_}
-use mathlib.Core.Bool.{Bool, true, _&&_, not, cond}
+use mathlib.Core.Bool.{true, _&&_, not, cond}
 use lib.Dec.{eqb}
 use lib.IntN.{pos, natAbs}
 use Rattle.state.specs.Units.{micros, phaseParts}
 use Rattle.state.specs.Device.{kind256, kind1024}
-use Rattle.state.specs.State.{Time, Update, timeOf, correctionOf, tuningOf, updateOf, errorsOf, whole, noUpdate, lastMicro}
+use Rattle.state.specs.State.{Time, Update, timeOf, correctionOf, tuningOf, updateOf, errorsOf, whole}
+use Rattle.state.specs.State.{noUpdate, lastMicro}
 use Rattle.state.specs.declared.state.Clock.{Clock}
+use Rattle.state.specs.declared.units.PhaseUnits.{PhaseUnits}
+use Rattle.state.specs.declared.units.PhaseParts.{PhaseParts}
 use Rattle.event.specs.Event.{answerOf, stepOf}
 use Rattle.event.specs.declared.event.Call.{Call as Single}
 use Rattle.event.specs.declared.event.Event.the-variants.{Call, CatchUp}
@@ -24,6 +27,9 @@ use Rattle.bounds.specs.WrongClocks.{leaving, callLeaves, reads, readsZe
 -- wrong on clocks of a kind, and by the rules on others: so that what shuts it out speaks of that kind
 abbrev pub onKind : {E : Type 0} → ℕ → (rules wrong : Clock → E → Stepped) → Clock → E → Stepped
 onKind kind rules wrong c e = cond (eqb (c .kind) kind) (wrong c e) (rules c e)
+
+abbrev pub timeFrom : ℕ → ℕ → PhaseUnits → PhaseParts → Time
+timeFrom s u p l = record { seconds = s; micros = micros u; phase = p; leftover = l }
 
 -- a clock, but for its time
 abbrev pub timed : Time → Clock → Clock
@@ -53,19 +59,18 @@ updated update c =
       status = c .status;
     })
 
--- a setting is a second late on a clock that has an offset left and no earlier update; no list on a fresh clock leads to one, but a record may
+-- a setting is a second late on a clock that has an offset left and no earlier update; no list on a fresh
+-- clock leads to one, but a record may
 abbrev pub setsLate : Answers
 setsLate =
     callLeaves (λ c e. sets c e && eqb (c .updated) 0 && not (eqb (natAbs (c .offset .0)) 0))
-    (λ got left.
-    timed (record { seconds = left .seconds + 1; micros = left .micros; phase = left .phase; leftover = left .leftover }) left)
+    (λ got left. timed (timeFrom (left .seconds + 1) (left .micros .0) (left .phase) (left .leftover)) left)
 
 -- the leftover is dropped at each tick, as before Req 06
 abbrev pub dropsLeftover : Answers
 dropsLeftover =
     callLeaves ticks
-    (λ got left.
-    timed (record { seconds = left .seconds; micros = left .micros; phase = left .phase; leftover = phaseParts (pos 0) }) left)
+    (λ got left. timed (timeFrom (left .seconds) (left .micros .0) (left .phase) (phaseParts (pos 0))) left)
 
 -- the clock holds its time, and each reading tells a microsecond more
 abbrev pub aheadAlways : Answers
@@ -84,7 +89,13 @@ abbrev pub tellsCeiling : Answers
 tellsCeiling c (Call e) = stepOf c (Call e)
 tellsCeiling c (CatchUp ceiling stop) =
     let a = stepOf c (CatchUp ceiling stop) in
-    record { refusal = a .refusal; count = ceiling; «tick_refusal» = a .«tick_refusal»; clock = a .clock; reading = a .reading }
+    record {
+      refusal = a .refusal;
+      count = ceiling;
+      «tick_refusal» = a .«tick_refusal»;
+      clock = a .clock;
+      reading = a .reading;
+    }
 
 -- a catch-up goes on for a tick past its ceiling
 abbrev pub overruns : Answers
@@ -96,8 +107,7 @@ abbrev pub lingers : Clock → Single → Stepped
 lingers c e =
     let a = answerOf c e in
     let d = a .clock in
-    let end = timed (record { seconds = d .seconds; micros = micros lastMicro; phase = d .phase; leftover = d .leftover }) d in
-    leaving (cond (rolls c e) end d) a
+    leaving (cond (rolls c e) (timed (timeFrom (d .seconds) lastMicro (d .phase) (d .leftover)) d) d) a
 
 -- none of them keeps the promise that it is named for
 pub record AlsoShutOut (kind : ℕ) : Type 0 where

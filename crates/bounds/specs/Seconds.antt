@@ -1,4 +1,5 @@
--- How many ticks a second has. Document 01: "from one rollover to the next it is 255, 256 or 257"; at 1,024 Hz it is 1,023, 1,024 or 1,025.
+-- How many ticks a second has. Document 01: "from one rollover to the next it is 255, 256 or 257"; at 1,024
+-- Hz it is 1,023, 1,024 or 1,025.
 use Prim.Native.Nat.{ℕ, _+_, _≤_}
 use mathlib.Core.Path.{_≡_}
 use mathlib.Core.Bool.{Bool, true, _||_}
@@ -20,8 +21,8 @@ pub record OneMoreOrFewer (kind n : ℕ) : Type 0 where
   pub least : deviceOf kind .rate ≤ n + 1
   pub most : n ≤ deviceOf kind .rate + 1
 
--- Of what answers single calls, on any clock: a tick that rolls over, calls between with neither a setting nor a
--- rollover, and the next tick that rolls over, which is the last of the second's ticks.
+-- Of what answers single calls, on any clock: a tick that rolls over, calls between with neither a setting
+-- nor a rollover, and the next tick that rolls over, which is the last of the second's ticks.
 abbrev pub TicksOfASecondBy : (Clock → Call → Stepped) → Type 0
 TicksOfASecondBy answers =
     (c : Clock) (between : List Call) → rolls c Tick ≡ true

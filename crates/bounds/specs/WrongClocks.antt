@@ -1,6 +1,7 @@
--- Clocks that document 01 shuts out by name: "a clock that refuses everything, and a reading that is always zero [..]; a tick that does
--- nothing [..]; a rollover that pays the first share and later only pretends". And others, each of which lacks one part of demand 3 alone.
--- For each, a list of events at which demand 3 would fail, on a clock of either kind.
+-- Clocks that document 01 shuts out by name: "a clock that refuses everything, and a reading that is always
+-- zero [..]; a tick that does nothing [..]; a rollover that pays the first share and later only pretends".
+-- And others, each of which lacks one part of demand 3 alone. For each, a list of events at which demand 3
+-- would fail, on a clock of either kind.
 use Prim.Native.Nat.{ℕ, _+_, _%_}
 use mathlib.Core.Bool.{Bool, false, not, _&&_, cond}
 use mathlib.Core.List.{List, [], _∷_}
@@ -26,9 +27,17 @@ use Rattle.bounds.specs.Demand.{ThirdBound, Demand3}
 
 -- an answer, but for its clock
 abbrev pub leaving : Clock → Stepped → Stepped
-leaving c a = record { refusal = a .refusal; count = a .count; «tick_refusal» = a .«tick_refusal»; clock = c; reading = a .reading }
+leaving c a =
+    record {
+      refusal = a .refusal;
+      count = a .count;
+      «tick_refusal» = a .«tick_refusal»;
+      clock = c;
+      reading = a .reading;
+    }
 
--- The rules, but that a call of a sort leaves another clock: f of the clock that it got and of the one that it should leave.
+-- The rules, but that a call of a sort leaves another clock: f of the clock that it got and of the one that
+-- it should leave.
 abbrev pub callLeaves : (Clock → Single → Bool) → (Clock → Clock → Clock) → Answers
 callLeaves sort f c (Call e) =
     let a = stepOf c (Call e) in
@@ -103,15 +112,17 @@ abbrev pub countsOnly : Answers
 countsOnly c (Call e) = stepOf c (Call e)
 countsOnly c (CatchUp ceiling stop) = leaving c (stepOf c (CatchUp ceiling stop))
 
--- Something has been taken off the offset that was asked for: what is left is no longer whole microseconds. (Of the offset asked for below
--- that is so from the first share on.)
+-- Something has been taken off the offset that was asked for: what is left is no longer whole microseconds.
+-- (Of the offset asked for below that is so from the first share on.)
 abbrev pub begun : Clock → Bool
 begun c = not (eqb (natAbs (c .offset .0) % offsetUnitsPerMicro) 0)
 
 -- no share in the adjustment, at frequency 0
 abbrev pub unpaid : Clock → Clock
 unpaid c =
-    corrected (record { offset = c .offset; adjustment = freshClock (c .kind) .adjustment; remainder = c .remainder }) c
+    corrected
+    (record { offset = c .offset; adjustment = freshClock (c .kind) .adjustment; remainder = c .remainder })
+    c
 
 -- the first share is paid; each later one is taken off the offset, and not paid
 abbrev pub pretends : Answers
@@ -121,7 +132,10 @@ pretends = callLeaves (λ c e. rolls c e && begun c) (λ got left. unpaid left)
 abbrev pub keepsOffset : Answers
 keepsOffset =
     callLeaves rolls
-    (λ got left. corrected (record { offset = got .offset; adjustment = left .adjustment; remainder = left .remainder }) left)
+    (λ got left.
+    corrected
+    (record { offset = got .offset; adjustment = left .adjustment; remainder = left .remainder })
+    left)
 
 -- the greatest offset, asked just before a rollover that pays its first share
 abbrev pub asked : List Event → List Event
@@ -131,14 +145,17 @@ asked events = Call (set 0 999999) ∷ Call (asks (pos 127999)) ∷ events
 abbrev pub pretence : ℕ → List Event
 pretence kind = asked (asEvents (singleTicks (measureOf kind .parts + 24)))
 
--- and ticks of which the first and the last roll over: the second between them, in which the first share is paid, is the shorter for it
+-- and ticks of which the first and the last roll over: the second between them, in which the first share is
+-- paid, is the shorter for it
 abbrev pub paidSecond : ℕ → ℕ
 paidSecond kind = measureOf kind .parts
 
--- None of them meets demand 3. A clock that refuses everything, one that says so, and a reading that is always zero fail the first bound after a
--- tick, and "a rollover that pays the first share and later only pretends ([..] 3's first bound, whose exact time counts every share)".
--- A clock whose offset stays while it is paid fails the second, at a tick of its own and at one within a catch-up; and a reading that is ahead, and
--- then no longer, the third. "A tick that does nothing ([..] 3's forward bound)" fails that bound too, as does a catch-up that only counts.
+-- None of them meets demand 3. A clock that refuses everything, one that says so, and a reading that is
+-- always zero fail the first bound after a tick, and "a rollover that pays the first share and later only
+-- pretends ([..] 3's first bound, whose exact time counts every share)". A clock whose offset stays while it
+-- is paid fails the second, at a tick of its own and at one within a catch-up; and a reading that is ahead,
+-- and then no longer, the third. "A tick that does nothing ([..] 3's forward bound)" fails that bound too, as
+-- does a catch-up that only counts.
 pub record ShutOut (kind : ℕ) : Type 0 where
   pub refusing : Demand3 refusesEverything kind (Call Tick ∷ []) → ⊥
   pub saying : Demand3 saysRefused kind (Call Tick ∷ []) → ⊥
@@ -146,7 +163,8 @@ pub record ShutOut (kind : ℕ) : Type 0 where
   pub pretending : Demand3 pretends kind (pretence kind) → ⊥
   pub keeping : Demand3 keepsOffset kind (asked (asEvents (singleTicks (paidSecond kind)))) → ⊥
   pub keepingWithin : Demand3 keepsOffset kind (asked (CatchUp (paidSecond kind) false ∷ [])) → ⊥
-  pub ahead : Demand3 aheadWhileBad kind (Call (set 5 0) ∷ Call Reading ∷ Call (asks (pos 0)) ∷ Call Reading ∷ []) → ⊥
+  pub ahead :
+      Demand3 aheadWhileBad kind (Call (set 5 0) ∷ Call Reading ∷ Call (asks (pos 0)) ∷ Call Reading ∷ []) → ⊥
   pub idle : ThirdBound idles kind (Call Reading ∷ Call Tick ∷ Call Reading ∷ []) → ⊥
   pub counting : ThirdBound countsOnly kind (Call Reading ∷ CatchUp 1 false ∷ Call Reading ∷ []) → ⊥
 

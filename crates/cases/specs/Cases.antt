@@ -1,6 +1,7 @@
--- "Marked cases (proved together)", the two edges at the last second, and the interval, the second device, an offset too soon and the kept remainder of
--- document 02: a table with a row for each, and what it means that a row holds. A row starts at a fresh clock of kind 0, or of the kind that it
--- names, but for the fields that it names. Where it says "rollover", ticks are made up to and with the next that rolls over.
+-- "Marked cases (proved together)", the two edges at the last second, and the interval, the second device, an
+-- offset too soon and the kept remainder of document 02: a table with a row for each, and what it means that
+-- a row holds. A row starts at a fresh clock of kind 0, or of the kind that it names, but for the fields that
+-- it names. Where it says "rollover", ticks are made up to and with the next that rolls over.
 use Prim.Native.Nat.{ℕ, zero, suc, _+_}
 use mathlib.Core.Path.{_≡_}
 use mathlib.Core.Bool.{Bool, true, _&&_, cond}
@@ -56,7 +57,8 @@ signedCode adjustment = 3
 signedCode remainder = 4
 signedCode leftover = 5
 
--- What a row starts with, where that is not fresh. No row can start with a negative count, a carry or a refusal: there is no way to say so.
+-- What a row starts with, where that is not fresh. No row can start with a negative count, a carry or a
+-- refusal: there is no way to say so.
 pub data Start : Type 0 where
   countStart : CountField → ℕ → Start
   signedStart : SignedField → ℤ → Start
@@ -110,7 +112,8 @@ given ss =
       status = countOr ss status (fresh .status);
     })
 
--- after some calls: the clock that the last one got, what it was refused with, and the clock that it handed back
+-- after some calls: the clock that the last one got, what it was refused with, and the clock that it handed
+-- back
 pub record Seen : Type 0 where
   pub got : Clock
   pub refused : ℕ
@@ -250,13 +253,15 @@ asksNothing = requests 0 (pos 0) 0
 abbrev pub set : ℕ → ℕ → Call
 set s u = call.Setting s (record { 0 = u })
 
--- The table of document 01, row by row ("frequency unchanged" at two frequencies; document 02: "the marked interval 5,000 becomes 1,024"),
--- after it the two edges, and then document 02's: the interval across an inserted and a deleted second, up to its limit, and none without an
--- offset or after a setting; the second device by the rows of the first, its kind kept by a setting, and no third; an offset a rollover too
--- soon, which leaves the interval, and in time, which sets it back; and the remainder: worked out at a rollover, with the frequency's sign, and in
--- force from the tick after it on; a unit that is just reached, up and down, and one that is not; a unit that c is taken with, and that refusal 3 is
--- judged with; a setting, which clears the leftover and works the remainder out; a leftover and a remainder in force at a rollover; and the ends of
--- both ranges, on either device.
+-- The table of document 01, row by row ("frequency unchanged" at two frequencies; document 02: "the marked
+-- interval 5,000 becomes 1,024"), after it the two edges, and then document 02's: the interval across an
+-- inserted and a deleted second, up to its limit, and none without an offset or after a setting; the second
+-- device by the rows of the first, its kind kept by a setting, and no third; an offset a rollover too soon,
+-- which leaves the interval, and in time, which sets it back; and the remainder: worked out at a rollover,
+-- with the frequency's sign, and in force from the tick after it on; a unit that is just reached, up and
+-- down, and one that is not; a unit that c is taken with, and that refusal 3 is judged with; a setting, which
+-- clears the leftover and works the remainder out; a leftover and a remainder in force at a rollover; and the
+-- ends of both ranges, on either device.
 abbrev pub markedCases : List Case
 markedCases =
     row 1 []
@@ -388,9 +393,9 @@ abbrev pub headings : List Case → List Heading
 headings [] = []
 headings (k ∷ ks) = (k .name shows valuesIn (k .stages)) ∷ headings ks
 
--- The rows that there are: 1 to 11 document 01's, of which 6 is at two frequencies, 12 and 13 its edges at the last
--- second; of document 02 the interval 14 to 16, the second device 17 to 25, an offset too soon 26, and the kept
--- remainder 27 to 41.
+-- The rows that there are: 1 to 11 document 01's, of which 6 is at two frequencies, 12 and 13 its edges at
+-- the last second; of document 02 the interval 14 to 16, the second device 17 to 25, an offset too soon 26,
+-- and the kept remainder 27 to 41.
 abbrev pub allHeadings : List Heading
 allHeadings =
     1 shows 3 ∷ 2 shows 3 ∷ 3 shows 4 ∷ 4 shows 4 ∷ 5 shows 3 ∷ 6 shows 3 ∷ 6 shows 3 ∷ 7 shows 2

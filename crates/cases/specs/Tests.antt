@@ -1,5 +1,5 @@
--- That each test of a row refuses what it should: every value is told from the next above and below it, and a rollover from a tick that is none.
--- Without these a test that accepts all would do.
+-- That each test of a row refuses what it should: every value is told from the next above and below it, and a
+-- rollover from a tick that is none. Without these a test that accepts all would do.
 use Prim.Native.Nat.{ℕ, _+_, _-_}
 use mathlib.Core.Path.{_≡_}
 use mathlib.Core.Bool.{Bool, true, false, not, _&&_}
@@ -9,9 +9,9 @@ use Rattle.state.specs.Device.{kind256, kind1024}
 use Rattle.state.specs.State.{lastSecond, lastMicro}
 use Rattle.state.specs.declared.state.Clock.{Clock}
 use Rattle.event.specs.declared.event.Call.the-variants as call
-use Rattle.cases.specs.Cases.{CountField, SignedField, Start, _≔_, _≔ℤ_, given, Seen, seen, Doing, callOf, tickTimes}
-use Rattle.cases.specs.Cases.{rollover, isDone, Value, countIs, signedIs, carried, refusal, _is_, isSeen, allSeen}
-use Rattle.cases.specs.Cases.{Stage, _then_, allStages, row, allCases}
+use Rattle.cases.specs.Cases.{Start, _≔_, _≔ℤ_, given, Seen, seen, tickTimes, rollover}
+use Rattle.cases.specs.Cases.{isDone, Value, countIs, signedIs, carried, refusal, _is_, isSeen}
+use Rattle.cases.specs.Cases.{allSeen, Stage, _then_, allStages, row, allCases}
 use Rattle.cases.specs.Cases as field
 
 -- a value is seen, and neither the one above nor the one below it
@@ -64,7 +64,8 @@ pub record ValuesTold : Type 0 where
 abbrev pub tickOn : ℕ → List Start → Seen
 tickOn kind ss = seen (given (field.kind ≔ kind ∷ ss)) call.Tick
 
--- c of the last tick, by the clock that it got; the fields, by the clock that it left; and what is a rollover: a tick that is accepted and rolls over
+-- c of the last tick, by the clock that it got; the fields, by the clock that it left; and what is a
+-- rollover: a tick that is accepted and rolls over
 pub record TicksTold (kind : ℕ) : Type 0 where
   pub carry : justSeenℤ carried (pos 1) (tickOn kind (field.phase ≔ℤ pos 268435455 ∷ [])) ≡ true
   pub after : isSeen (field.micros is 0) (tickOn kind []) ≡ false
@@ -90,7 +91,8 @@ pub record PlacesTold : Type 0 where
   pub stages : allStages (holds ∷ holds ∷ []) (given []) ≡ true
   pub firstStage : allStages (fails ∷ holds ∷ []) (given []) ≡ false
   pub lastStage : allStages (holds ∷ fails ∷ []) (given []) ≡ false
-  pub notDone : allStages (noRollover ∷ []) (given (field.seconds ≔ lastSecond ∷ field.micros ≔ lastMicro ∷ [])) ≡ false
+  pub notDone :
+      allStages (noRollover ∷ []) (given (field.seconds ≔ lastSecond ∷ field.micros ≔ lastMicro ∷ [])) ≡ false
   pub rows : allCases (row 1 [] (holds ∷ []) ∷ row 2 [] (holds ∷ []) ∷ []) ≡ true
   pub firstRow : allCases (row 1 [] (fails ∷ []) ∷ row 2 [] (holds ∷ []) ∷ []) ≡ false
   pub lastRow : allCases (row 1 [] (holds ∷ []) ∷ row 2 [] (fails ∷ []) ∷ []) ≡ false
