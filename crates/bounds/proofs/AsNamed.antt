@@ -12,7 +12,8 @@ use Rattle.bounds.specs.Calls.{afterBy}
 use Rattle.bounds.specs.AsNamed.{EachAsNamed}
 
 pub as-named : EachAsNamed
-unfolding deviceOf inRange readingOf readingRefusal rolledOver unitIn ticked tickRefusal tickOf ranOf catchUpOf settingRefusal settingOf requestRefusal requested requestOf afterBy
+unfolding deviceOf inRange readingOf readingRefusal rolledOver unitIn ticked tickRefusal tickOf ranOf
+    catchUpOf settingRefusal settingOf requestRefusal requested requestOf afterBy
 as-named = (
   record {
     refuses = record { wrongAnswer = refl; rightAnswer = refl };

@@ -33,7 +33,8 @@ ticks : {kind n k : ℕ} → leb (deviceOf kind .rate) (n + 1) ≡ true → leb 
 ticks l m beyond = (record { least = leb-true _ _ l; most = leb-true _ _ m }, beyond)
 
 pub edges : Edges
-unfolding deviceOf measureOf inRange rolledOver unitIn ticked tickRefusal tickOf ranOf catchUpOf settingRefusal settingOf requestRefusal requested requestOf afterBy singleTicks singlyFrom bookFrom
+unfolding deviceOf measureOf inRange rolledOver unitIn ticked tickRefusal tickOf ranOf catchUpOf
+    settingRefusal settingOf requestRefusal requested requestOf afterBy singleTicks singlyFrom bookFrom
 edges =
     record {
       near256 = record { behind = below refl refl; ahead = below refl refl };

@@ -36,16 +36,22 @@ not-none e h = omega (arith, e, h)
 
 -- What the first share has moved at the second rollover, of 2,047,984 offset units in 255 or 1,023 ticks,
 -- with nothing taken off.
-pub kept256 : AtRollover keepsOffset kind256 (asked (asEvents (singleTicks 255))) → ⊥
-unfolding deviceOf measureOf inRange readingOf readingRefusal rolledOver unitIn ticked tickRefusal tickOf ranOf catchUpOf settingRefusal settingOf requestRefusal requested requestOf afterBy countAmongBy noneAmongBy singleTicks singlyFrom asEvents bookFrom
+kept256 : AtRollover keepsOffset kind256 (asked (asEvents (singleTicks 255))) → ⊥
+unfolding deviceOf measureOf inRange readingOf readingRefusal rolledOver unitIn ticked tickRefusal tickOf
+    ranOf catchUpOf settingRefusal settingOf requestRefusal requested requestOf afterBy countAmongBy
+    noneAmongBy singleTicks singlyFrom asEvents bookFrom
 kept256 h = not-most refl (h refl)
 
-pub kept1024 : AtRollover keepsOffset kind1024 (asked (asEvents (singleTicks 1023))) → ⊥
-unfolding deviceOf measureOf inRange readingOf readingRefusal rolledOver unitIn ticked tickRefusal tickOf ranOf catchUpOf settingRefusal settingOf requestRefusal requested requestOf afterBy countAmongBy noneAmongBy singleTicks singlyFrom asEvents bookFrom
+kept1024 : AtRollover keepsOffset kind1024 (asked (asEvents (singleTicks 1023))) → ⊥
+unfolding deviceOf measureOf inRange readingOf readingRefusal rolledOver unitIn ticked tickRefusal tickOf
+    ranOf catchUpOf settingRefusal settingOf requestRefusal requested requestOf afterBy countAmongBy
+    noneAmongBy singleTicks singlyFrom asEvents bookFrom
 kept1024 h = not-most refl (h refl)
 
 pub shut-out : ShutOutOfEachKind
-unfolding deviceOf measureOf inRange readingOf readingRefusal rolledOver unitIn ticked tickRefusal tickOf ranOf catchUpOf settingRefusal settingOf requestRefusal requested requestOf afterBy countAmongBy noneAmongBy singleTicks singlyFrom asEvents bookFrom
+unfolding deviceOf measureOf inRange readingOf readingRefusal rolledOver unitIn ticked tickRefusal tickOf
+    ranOf catchUpOf settingRefusal settingOf requestRefusal requested requestOf afterBy countAmongBy
+    noneAmongBy singleTicks singlyFrom asEvents bookFrom
 shut-out = (
   record {
     refusing = λ d. not-below refl (d .first .near);
@@ -64,7 +70,8 @@ shut-out = (
     zeros = λ d. not-below refl (d .first .near);
     pretending = λ d. not-below refl (d .first .near);
     keeping = λ d. kept1024 (d .second .single (asked (asEvents (singleTicks 1023))) [] refl);
-    keepingWithin = λ d. kept1024 (d .second .within (asked []) [] 1024 false refl 1023 (ltb-true 1023 1024 refl));
+    keepingWithin = λ d.
+        kept1024 (d .second .within (asked []) [] 1024 false refl 1023 (ltb-true 1023 1024 refl));
     ahead = λ d. not-most refl (d .third (Call (set 5 0) ∷ []) (Call (asks (pos 0)) ∷ []) [] refl refl);
     idle = λ b. not-most refl (b [] (Call Tick ∷ []) [] refl refl);
     counting = λ b. not-most refl (b [] (CatchUp 1 false ∷ []) [] refl refl);

@@ -9,5 +9,6 @@ use Rattle.request.specs.Request.{requestRefusal, requested, requestOf}
 use Rattle.cases.specs.Cases.{MarkedCases}
 
 pub marked-cases : MarkedCases
-unfolding deviceOf inRange rolledOver unitIn ticked tickRefusal tickOf settingRefusal settingOf requestRefusal requested requestOf
+unfolding deviceOf inRange rolledOver unitIn ticked tickRefusal tickOf settingRefusal settingOf requestRefusal
+    requested requestOf
 marked-cases = record { named = refl; hold = refl }
