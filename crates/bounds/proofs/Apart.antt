@@ -1,5 +1,5 @@
--- Two accepted offsets of a list: the second finds in the clock no more rollovers than lie between them, and no fewer than 64. And the clock's
--- count, which stops at 1,024, judges as all rollovers would.
+-- Two accepted offsets of a list: the second finds in the clock no more rollovers than lie between them, and
+-- no fewer than 64. And the clock's count, which stops at 1,024, judges as all rollovers would.
 use mathlib.Core.Path.{_≡_, refl, sym, ap}
 use mathlib.Core.Bool.{Bool, true, false, _&&_, not, cond, true≢false}
 use mathlib.Core.List.{List, [], _∷_, _++_}
@@ -16,7 +16,7 @@ use Rattle.request.proofs.RequestCases as req
 use Rattle.event.specs.declared.event.Call.{Call}
 use Rattle.event.specs.declared.event.Call.the-variants as call
 use Rattle.event.specs.declared.event.Event.the-variants as event
-use Rattle.bounds.specs.Calls.{next, after, clockAfter, clockFrom, accepted, takesOffset, sets, rolls, countAmong, noneAmong, rolloversAmong, neverSet}
+use Rattle.bounds.specs.Calls.{next, after, clockAfter, clockFrom, accepted, takesOffset, sets, rolls, countAmongBy, noneAmongBy, rolloversAmong, neverSet}
 use Rattle.bounds.specs.Singly.{singlyFrom}
 use Rattle.bounds.specs.Interval.{Since, justTaken, callSince, sinceFrom, sinceOf, heldUpdate}
 use Rattle.bounds.specs.Apart.{OffsetsApartInEveryList, TooSoonByTheCalls}
@@ -44,7 +44,7 @@ step-since c n (call.Request r) o h = taken (takesOffset c r) n o
 step-since c n call.Reading o h = record { offset = o; rollovers = omega arith }
 
 run-since : (c : Clock) (n : Since) (es : List Call) → n .offset ≡ true → neverSet c es ≡ true → SinceAtMost (sinceFrom c n es) (rolloversAmong c es + n .rollovers)
-unfolding sinceFrom noneAmong countAmong
+unfolding sinceFrom noneAmongBy countAmongBy
 run-since c n [] o h = record { offset = o; rollovers = omega arith }
 run-since c n (e ∷ es) o h =
     let p = and-true (not (sets c e)) (neverSet (next c e) es) h in

@@ -1,4 +1,5 @@
--- The first bound: the clock's time with its phase and its leftover is the exact time, an equality that every call keeps.
+-- The first bound: the clock's time with its phase and its leftover is the exact time, an equality that every
+-- call keeps.
 use mathlib.Core.Path.{_≡_, refl, sym, _∙_, ap, subst}
 use mathlib.Core.Bool.{Bool, true, false, true≢false}
 use mathlib.Core.List.{List, [], _∷_}
@@ -66,7 +67,8 @@ rate-diff d a s f e =
     subst (λ (z : ℤ). Diff z (d .scale * posPart s + posPart f / d .divisor + posPart (d .base .0)) (d .scale * negPart s + negPart f / d .divisor + negPart (d .base .0))) (sym e)
     (add (add (times (d .scale) (self s)) (quot f (d .divisor))) (self (d .base .0)))
 
--- What a tick adds by adjustment and remainder is what the book adds: the division's quotient and its remainder together lose nothing.
+-- What a tick adds by adjustment and remainder is what the book adds: the division's quotient and its
+-- remainder together lose nothing.
 gain : (kind : ℕ) (a r s f : ℤ) → a ≡ adjustmentFor (deviceOf kind) s f → r ≡ remZ f (pos (deviceOf kind .divisor))
     → deviceOf kind .divisor * (268435456 * deviceOf kind .tick .0 + posPart a) + posPart r + (1024 * negPart s + negPart f) ≡ deviceOf kind .divisor * negPart a + negPart r + (16777216000000 + 1024 * posPart s + posPart f)
 gain kind a r s f e h =
@@ -113,8 +115,8 @@ module _ (c : Clock) (b : Book) (i : Inv c b) where
       let d = add (add (add (self (b .exact)) (lit (measureOf (c .kind) .tick))) (times 1 (self (b .frequency)))) (times 1024 (self (b .share))) in
       record { eq = omega (arith, d .eq, measured (c .kind) .tick) }
 
-  -- A time that has grown by the tick and a leap step, with the leftover after the tick, and an exact time that has grown by the book's tick and the
-  -- same step.
+  -- A time that has grown by the tick and a leap step, with the leftover after the tick, and an exact time
+  -- that has grown by the book's tick and the same step.
   step-kept : (z x : ℤ) (up down : ℕ)
       → Diff z (posPart (total c) + 268435456 * deviceOf (c .kind) .tick .0 + posPart (c .adjustment .0) + posPart (unitReached c) + up) (negPart (total c) + negPart (c .adjustment .0) + negPart (unitReached c) + down)
       → Diff x (exactP b + perPhase c * up) (exactN b + perPhase c * down)

@@ -1,4 +1,5 @@
--- The third bound: an accepted tick adds at least the least of its device, and no other call but a setting moves the time.
+-- The third bound: an accepted tick adds at least the least of its device, and no other call but a setting
+-- moves the time.
 use mathlib.Core.Path.{_≡_, sym, _∙_}
 use mathlib.Core.Bool.{true, false, not, cond, true≢false}
 use mathlib.Core.List.{List, [], _∷_}
@@ -25,7 +26,7 @@ use Rattle.request.specs.declared.request.Request.{Request}
 use Rattle.request.proofs.RequestCases as req
 use Rattle.event.specs.declared.event.Call.{Call}
 use Rattle.event.specs.declared.event.Call.the-variants as call
-use Rattle.bounds.specs.Calls.{next, afterBy, after, ticks, countAmong, noneAmong, setsOrInserts, ticksAmong, neitherSetNorInserted}
+use Rattle.bounds.specs.Calls.{next, afterBy, after, ticks, countAmongBy, noneAmongBy, setsOrInserts, ticksAmong, neitherSetNorInserted}
 use Rattle.bounds.specs.Book.{Book, callBook}
 use Rattle.bounds.specs.Measure.{measureOf}
 use Rattle.bounds.proofs.Runs.{next-kind}
@@ -74,7 +75,7 @@ module _ (c : Clock) (k : Ok c) where
   step-forward call.Reading h = omega arith
 
 pub forward : (c : Clock) (b : Book) (es : List Call) → Inv c b → neitherSetNorInserted c es ≡ true → told c + measureOf (c .kind) .least * ticksAmong c es ≤ told (after c es)
-unfolding afterBy noneAmong countAmong
+unfolding afterBy noneAmongBy countAmongBy
 forward c b [] i h = omega arith
 forward c b (e ∷ es) i h =
     let p = and-true (not (setsOrInserts c e)) (neitherSetNorInserted (next c e) es) h in

@@ -1,4 +1,5 @@
--- After every list of events the clock's earlier update is the one that its calls have led to: each call keeps it so.
+-- After every list of events the clock's earlier update is the one that its calls have led to: each call
+-- keeps it so.
 use mathlib.Core.Path.{_≡_, refl, ap, _∙_}
 use mathlib.Core.Bool.{Bool, true, false}
 use mathlib.Core.List.{List, [], _∷_}

@@ -1,4 +1,5 @@
 pub mod Runs
+pub mod BookTicks
 pub mod MeasureLaws
 pub mod Ticked
 pub mod Singly
@@ -10,3 +11,6 @@ pub mod Theorem
 pub mod Interval
 pub mod Apart
 pub mod ShutOut
+pub mod AlsoShutOut
+pub mod AsNamed
+pub mod Edges

@@ -1,5 +1,6 @@
--- What the bounds take from a device and its measure, beyond the clock's laws: the book's units by the device's constants, and how long a
--- tick is at least and at most. No other proof of this crate looks at a device's numbers.
+-- What the bounds take from a device and its measure, beyond the clock's laws: the book's units by the
+-- device's constants, and how long a tick is at least and at most. No other proof of this crate looks at a
+-- device's numbers.
 use mathlib.Core.Path.{_≡_, refl}
 use mathlib.Core.Bool.{Bool, true, false, cond}
 use Prim.Native.Nat.{ℕ, _+_, _-_, _*_, _≤_, _<_}

@@ -1,5 +1,6 @@
--- The second bound: from one rollover to the next there are `rate` ticks, or one more or fewer, and all shares of one offset have its
--- sign, so that what an offset has moved the clock is within 1/rate of what has been taken off it.
+-- The second bound: from one rollover to the next there are `rate` ticks, or one more or fewer, and all
+-- shares of one offset have its sign, so that what an offset has moved the clock is within 1/rate of what has
+-- been taken off it.
 use mathlib.Core.Path.{_≡_, refl, sym, ap}
 use mathlib.Core.Bool.{Bool, true, false}
 use mathlib.Core.List.{List, [], _∷_}
@@ -35,7 +36,8 @@ use Rattle.bounds.specs.Demand.{takenOff, MovedAsTaken}
 use Rattle.bounds.proofs.MeasureLaws.{shortest, longest, measured}
 use Rattle.bounds.proofs.Exact.{Inv, left-diff, step-inv, not-zero}
 
--- The time since the last rollover after j ticks: at least j of the shortest, at most j of the longest (phase units).
+-- The time since the last rollover after j ticks: at least j of the shortest, at most j of the longest (phase
+-- units).
 pub record Count (d : Device) (us : ℕ) (p : ℤ) (j : ℕ) : Type 0 where
   pub low : j * shortest d + negPart p ≤ us * 268435456 + posPart p + 268435456
   pub high : us * 268435456 + posPart p ≤ 268435456 * (d .tick .0 + 2) + j * longest d + negPart p
@@ -68,8 +70,8 @@ module _ (c : Clock) (k : Ok c) (j : ℕ) where
 pub count-start : (c : Clock) → Ok c → 1000000 ≤ microsGrown c → Count (device c) (microsGrown c - 1000000) (phaseLeft c) 0
 count-start c k l = record { low = omega (arith, left-parts c k); high = omega (arith, left-parts c k, grown-most c k) }
 
--- One sign of an offset at rate r: a asked, l left, o the own share, m moved after j ticks since the last rollover; `old` is what earlier
--- shares took.
+-- One sign of an offset at rate r: a asked, l left, o the own share, m moved after j ticks since the last
+-- rollover; `old` is what earlier shares took.
 pub record Side (r a l o j m : ℕ) : Type 0 where
   pub old : ℕ
   pub whole : old + o + l ≡ a

@@ -1,4 +1,5 @@
--- From one rollover to the next: the time since the last one bounds the number of ticks, at every call between.
+-- From one rollover to the next: the time since the last one bounds the number of ticks, at every call
+-- between.
 use mathlib.Core.Path.{_≡_, refl, sym, _∙_}
 use mathlib.Core.Bool.{Bool, true, false, not, cond, true≢false}
 use mathlib.Core.List.{List, [], _∷_}
@@ -22,7 +23,7 @@ use Rattle.request.proofs.Accepted.{requested-ok}
 use Rattle.request.proofs.RequestCases as req
 use Rattle.event.specs.declared.event.Call.{Call}
 use Rattle.event.specs.declared.event.Call.the-variants as call
-use Rattle.bounds.specs.Calls.{next, afterBy, after, ticks, countAmong, noneAmong, ticksAmong}
+use Rattle.bounds.specs.Calls.{next, afterBy, after, ticks, countAmongBy, noneAmong, noneAmongBy, ticksAmong}
 use Rattle.bounds.specs.Calls as calls
 use Rattle.bounds.specs.Seconds.{setsOrRolls, OneMoreOrFewer, TicksOfASecond}
 use Rattle.bounds.proofs.Runs.{after-kind, next-kind}
@@ -59,7 +60,7 @@ module _ (c : Clock) (j : ℕ) (s : Since c j) where
   step-since call.Reading h = as-many (omega arith) s
 
 run-since : (c : Clock) (j : ℕ) (es : List Call) → Since c j → noneAmong setsOrRolls c es ≡ true → Since (after c es) (ticksAmong c es + j)
-unfolding afterBy noneAmong countAmong
+unfolding afterBy noneAmongBy countAmongBy
 run-since c j [] s h = as-many (omega arith) s
 run-since c j (e ∷ es) s h =
     let p = and-true (not (setsOrRolls c e)) (noneAmong setsOrRolls (next c e) es) h in

@@ -53,12 +53,14 @@ module _ (start : Clock) (before : List Event) (e : Event) where
       ∙ bookFrom-append start emptyBook (singlyFrom start before) (singleCalls (clockFrom start before) e)
       ∙ ap (λ (c : Clock). bookFrom c (bookOn start before) (singleCalls (clockFrom start before) e)) (sym (after-singly start before))
 
-  in-place : (later : List Event) → InPlace start before later e
+  in-place : (later : List Event) → InPlace stepOf start before later e
   unfolding singlyFrom afterBy
   in-place later =
       record {
         place = rw (after-append stepOf start before (e ∷ [])) (singly-append start before (e ∷ later));
-        answers = subst (λ (c : Clock). AnswersAs (clockFrom start before) c e) (after-singly start before) (answers-as (clockFrom start before) e);
+        answered =
+            subst (λ (c : Clock). AnswersAs stepOf (clockFrom start before) c e) (after-singly start before)
+            (answers-as (clockFrom start before) e);
         book = book-last;
       }
 

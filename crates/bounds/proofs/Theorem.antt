@@ -1,4 +1,5 @@
--- Demand 3 holds of every list of events: the invariants of its single calls are those of its clock and book. And nothing of the time is lost.
+-- Demand 3 holds of every list of events: the invariants of its single calls are those of its clock and book.
+-- And nothing of the time is lost.
 use mathlib.Core.Path.{_≡_, ap, subst}
 use mathlib.Core.Bool.{true}
 use mathlib.Core.List.{List, [], _∷_, _++_}
@@ -90,7 +91,7 @@ module _ (start : Clock) (events : List Event) (i : Inv (clockFrom start events)
       let r = read-ok last (i .range) in
       record { accepted = simp r; near = simp r (rw (clock-kind start events) at (near last (bookOn start events) i)) }
 
-  lossless : NothingLost start events
+  lossless : NothingLost stepOf start events
   lossless =
       let r = read-ok last (i .range) in
       record { held = held last (bookOn start events) i; near = simp r (rw (clock-kind start events) at (below last (bookOn start events) i)) }

@@ -1,4 +1,5 @@
--- A catch-up by the single ticks in its place: by induction on the ceiling, the first tick and then the others.
+-- A catch-up by the single ticks in its place: by induction on the ceiling, the first tick and then the
+-- others.
 use mathlib.Core.Path.{_≡_, refl, sym, _∙_, ap}
 use mathlib.Core.Bool.{Bool, true, false, _&&_, true≢false}
 use Prim.Native.Nat.{ℕ, zero, suc, _<_}
@@ -135,7 +136,7 @@ module _ (stop : Bool) where
     in-range : eqb (catchUpRefusal c ceiling) 0 ≡ true → inRange c ≡ true
     in-range t = accepted-in-range c ceiling (inRange c) refl t
 
-    by-call : (b : Bool) → eqb (catchUpRefusal c ceiling) 0 ≡ b → AnswersAs c c (CatchUp ceiling stop)
+    by-call : (b : Bool) → eqb (catchUpRefusal c ceiling) 0 ≡ b → AnswersAs stepOf c c (CatchUp ceiling stop)
     unfolding catchUpOf
     by-call true t = simp t ((λ z. ticked ceiling c (in-range t)), (λ n. absurd (n (run-accepted ceiling c))))
     by-call false t = simp t ((λ z. absurd (eqb-false (catchUpRefusal c ceiling) 0 t z)), (λ n. record { count = refl; tickRefusal = refl; clock = refl }))
@@ -146,7 +147,7 @@ module _ (stop : Bool) where
     clock-by-call true t = simp t (ticked ceiling c (in-range t) .clock)
     clock-by-call false t = simp t
 
-pub answers-as : (c : Clock) (e : Event) → AnswersAs c c e
+pub answers-as : (c : Clock) (e : Event) → AnswersAs stepOf c c e
 answers-as c (Call e) = refl
 answers-as c (CatchUp ceiling stop) = by-call stop c ceiling (eqb (catchUpRefusal c ceiling) 0) refl
 

@@ -1,17 +1,18 @@
--- Document 02, Req 05, over a whole list: "A request that selects an offset fewer than 64 rollovers after the last accepted one is now refused,
--- number 17 [..] A clock without an earlier update is exempt."
+-- Document 02, Req 05, over a whole list: "A request that selects an offset fewer than 64 rollovers after the
+-- last accepted one is now refused, number 17 [..] A clock without an earlier update is exempt."
 use Prim.Native.Nat.{ℕ, _≤_}
 use mathlib.Core.Path.{_≡_}
 use mathlib.Core.Bool.{Bool, true, _&&_}
 use mathlib.Core.List.{List, [], _∷_, _++_}
-use lib.Dec.{ltb}
+use lib.Dec.{ltb, eqb}
 use Rattle.state.specs.declared.state.Clock.{Clock}
 use Rattle.request.specs.Request.{selectsOffset, shortestInterval, offsetTooSoon}
 use Rattle.request.specs.declared.request.Request as asked
+use Rattle.event.specs.Event.{stepOf}
 use Rattle.event.specs.declared.event.Call.the-variants.{Request}
 use Rattle.event.specs.declared.event.Event.{Event}
 use Rattle.event.specs.declared.event.Event.the-variants.{Call}
-use Rattle.bounds.specs.Calls.{clockAfter, clockFrom, takesOffset, rolloversAmong, neverSet}
+use Rattle.bounds.specs.Calls.{Answers, afterBy, clockBy, clockFrom, rolloversAmong, neverSet}
 use Rattle.bounds.specs.Singly.{singlyFrom}
 use Rattle.bounds.specs.Interval.{Since, sinceOf}
 
@@ -19,22 +20,40 @@ use Rattle.bounds.specs.Interval.{Since, sinceOf}
 abbrev pub tooSoon : Since → asked.Request → Bool
 tooSoon n r = selectsOffset r && n .offset && ltb (n .rollovers) shortestInterval
 
--- After any list of events on a fresh clock of a kind the clock, which holds no more than 1,024 of these rollovers, judges by them all.
-abbrev pub TooSoonByTheCalls : Type 0
-TooSoonByTheCalls = (kind : ℕ) (events : List Event) (r : asked.Request) → offsetTooSoon (clockAfter kind events) r ≡ tooSoon (sinceOf kind events) r
+-- Of what answers: after any list of events on a fresh clock of a kind the clock, which holds no more than
+-- 1,024 of these rollovers, judges by them all.
+abbrev pub TooSoonBy : Answers → Type 0
+TooSoonBy answers =
+    (kind : ℕ) (events : List Event) (r : asked.Request)
+    → offsetTooSoon (clockBy answers kind events) r ≡ tooSoon (sinceOf kind events) r
 
--- So two accepted offsets have at least 64 rollovers between them, unless there is an accepted setting as well: whichever two requests of a list
--- that are accepted and select an offset. The ticks of catch-ups between them are made singly.
-abbrev pub OffsetsApart : Clock → List Event → Type 0
-OffsetsApart start events =
+abbrev pub TooSoonByTheCalls : Type 0
+TooSoonByTheCalls = TooSoonBy stepOf
+
+-- that a request is accepted by what answers, after these events, and selects an offset
+abbrev pub offsetTaken : Answers → Clock → List Event → asked.Request → Bool
+offsetTaken answers start events r =
+    eqb (answers (afterBy answers start events) (Call (Request r)) .refusal) 0 && selectsOffset r
+
+-- so many rollovers lie between two offsets that the second is not too soon
+abbrev pub FarApart : ℕ → Type 0
+FarApart rollovers = shortestInterval ≤ rollovers
+
+-- So two accepted offsets have at least 64 rollovers between them, unless there is an accepted setting as
+-- well: whichever two requests of a list that are accepted and select an offset. The rollovers are those of
+-- the rules, and the ticks of catch-ups between them are made singly.
+abbrev pub OffsetsApart : Answers → Clock → List Event → Type 0
+OffsetsApart answers start events =
     (before between later : List Event) (first second : asked.Request)
     → events ≡ before ++ (Call (Request first) ∷ (between ++ (Call (Request second) ∷ later)))
-    → takesOffset (clockFrom start before) first ≡ true
-    → takesOffset (clockFrom start (before ++ (Call (Request first) ∷ between))) second ≡ true
+    → offsetTaken answers start before first ≡ true
+    → offsetTaken answers start (before ++ (Call (Request first) ∷ between)) second ≡ true
     → let c = clockFrom start (before ++ (Call (Request first) ∷ [])) in
-    neverSet c (singlyFrom c between) ≡ true
-    → shortestInterval ≤ rolloversAmong c (singlyFrom c between)
+    neverSet c (singlyFrom c between) ≡ true → FarApart (rolloversAmong c (singlyFrom c between))
 
 -- On any clock: a fresh one of a kind, or one that was read from a record.
+abbrev pub OffsetsApartBy : Answers → Type 0
+OffsetsApartBy answers = (start : Clock) (events : List Event) → OffsetsApart answers start events
+
 abbrev pub OffsetsApartInEveryList : Type 0
-OffsetsApartInEveryList = (start : Clock) (events : List Event) → OffsetsApart start events
+OffsetsApartInEveryList = OffsetsApartBy stepOf

@@ -1,7 +1,8 @@
--- "The book of demand 3": what a list of calls should have come to, by the calls alone. It runs the rules itself over the same list, from a fresh
--- clock, or from the clock on which the list's first call, a setting, is accepted. `rules` is the clock of that run: its phase, adjustment, remainder
--- and leftover only decide which ticks roll over or are refused, and no entry takes them. What a tick is worth, and in which units, is the measure of
--- the clock's kind.
+-- "The book of demand 3": what a list of calls should have come to, by the calls alone. It runs the rules
+-- itself over the same list, from a fresh clock, or from the clock on which the list's first call, a setting,
+-- is accepted. `rules` is the clock of that run: its phase, adjustment, remainder and leftover only decide
+-- which ticks roll over or are refused, and no entry takes them. What a tick is worth, and in which units, is
+-- the measure of the clock's kind.
 use Prim.Native.Nat.{ℕ, _+_, _*_}
 use mathlib.Core.Bool.{cond}
 use mathlib.Core.List.{List, [], _∷_}
@@ -24,8 +25,8 @@ pub record Book : Type 0 where
   pub exact : ℤ
   -- ticks since the last setting or the start; since document 02's "whatever n is" no bound takes it
   pub n : ℕ
-  -- "The frequency and share in force are those from which the adjustment was last worked out, at a rollover or setting":
-  -- frequency in force (frequency units, 2^-24 us per second)
+  -- "The frequency and share in force are those from which the adjustment was last worked out, at a rollover
+  -- or setting": frequency in force (frequency units, 2^-24 us per second)
   pub frequency : ℤ
   -- share in force (offset units, 2^-14 us)
   pub share : ℤ
@@ -40,8 +41,9 @@ pub record Book : Type 0 where
 abbrev pub emptyBook : Book
 emptyBook = record { exact = pos 0; n = 0; frequency = pos 0; share = pos 0; ownShare = pos 0; moved = pos 0; asked = pos 0 }
 
--- "Tick: n + 1. Exact time + 3,906 1/4 us + 1/256 of the frequency in force (as us per second) + 1/256 of the share in force.
--- Moved + own share/256." Of the second device "976 9/16 us for each tick; 1/1,024 in place of 1/256".
+-- "Tick: n + 1. Exact time + 3,906 1/4 us + 1/256 of the frequency in force (as us per second) + 1/256 of the
+-- share in force. Moved + own share/256." Of the second device "976 9/16 us for each tick; 1/1,024 in place
+-- of 1/256".
 abbrev pub tickBook : Measure → Book → Book
 tickBook m b =
     record {
@@ -54,14 +56,15 @@ tickBook m b =
       asked = b .asked;
     }
 
--- "Exact time - 1,000,000 us if INS steps (an inserted second), + 1,000,000 us if DEL steps." (units of exact time)
+-- "Exact time - 1,000,000 us if INS steps (an inserted second), + 1,000,000 us if DEL steps." (units of exact
+-- time)
 abbrev pub leapExact : Clock → ℤ → ℤ
 leapExact rules exact =
     let second = microsPerSecond * measureOf (rules .kind) .perMicro in
     cond (insertsSecond rules) (exact -ℤ pos second) (cond (deletesSecond rules) (exact +ℤ pos second) exact)
 
--- "If the tick rolls over, [..] Then share and own share become the rollover's share, and the frequency in force becomes the
--- present one."
+-- "If the tick rolls over, [..] Then share and own share become the rollover's share, and the frequency in
+-- force becomes the present one."
 abbrev pub rolloverBook : Clock → Book → Book
 rolloverBook rules b =
     record {
@@ -87,8 +90,8 @@ settingBook rules s u =
       asked = pos 0;
     }
 
--- "Request that selects an offset (an offset request): asked becomes the offset x 2^14, own share and moved 0; the share in
--- force stays."
+-- "Request that selects an offset (an offset request): asked becomes the offset x 2^14, own share and moved
+-- 0; the share in force stays."
 abbrev pub offsetBook : Request → Book → Book
 offsetBook r b =
     record {

@@ -82,14 +82,23 @@ insertsSecond c = inserts (c .status) (c .seconds + 1)
 abbrev pub deletesSecond : Clock → Bool
 deletesSecond c = deletes (c .status) (c .seconds + 1)
 
--- Of the calls of a list, the first of which gets c: how many are of a sort, and whether none is. Each is judged at the clock that it gets.
-unfoldable pub countAmong : (Clock → Call → Bool) → Clock → List Call → ℕ
-countAmong sort c [] = 0
-countAmong sort c (e ∷ es) = cond (sort c e) 1 0 + countAmong sort (next c e) es
+-- Of the calls of a list, the first of which gets c: how many are of a sort, and whether none is. Each is
+-- judged at the clock that it gets.
+unfoldable pub countAmongBy : (Clock → Call → Stepped) → (Clock → Call → Bool) → Clock → List Call → ℕ
+countAmongBy answers sort c [] = 0
+countAmongBy answers sort c (e ∷ es) =
+    cond (sort c e) 1 0 + countAmongBy answers sort (answers c e .clock) es
 
-unfoldable pub noneAmong : (Clock → Call → Bool) → Clock → List Call → Bool
-noneAmong sort c [] = true
-noneAmong sort c (e ∷ es) = not (sort c e) && noneAmong sort (next c e) es
+unfoldable pub noneAmongBy : (Clock → Call → Stepped) → (Clock → Call → Bool) → Clock → List Call → Bool
+noneAmongBy answers sort c [] = true
+noneAmongBy answers sort c (e ∷ es) = not (sort c e) && noneAmongBy answers sort (answers c e .clock) es
+
+-- The same by the rules.
+abbrev pub countAmong : (Clock → Call → Bool) → Clock → List Call → ℕ
+countAmong sort c es = countAmongBy answerOf sort c es
+
+abbrev pub noneAmong : (Clock → Call → Bool) → Clock → List Call → Bool
+noneAmong sort c es = noneAmongBy answerOf sort c es
 
 -- how many accepted ticks are among the calls
 abbrev pub ticksAmong : Clock → List Call → ℕ

@@ -1,15 +1,16 @@
--- Document 02, Req 02: "the number of rollovers since the last accepted offset, at most 1,024". What the clock holds of its earlier update
--- after any list of events, by the calls alone.
+-- Document 02, Req 02: "the number of rollovers since the last accepted offset, at most 1,024". What the
+-- clock holds of its earlier update after any list of events, by the calls alone.
 use Prim.Native.Nat.{ℕ, _+_, min}
 use mathlib.Core.Path.{_≡_}
 use mathlib.Core.Bool.{Bool, true, false, cond}
 use mathlib.Core.List.{List, [], _∷_}
 use Rattle.state.specs.State.{freshClock, Update, updateOf, noUpdate, longestInterval}
 use Rattle.state.specs.declared.state.Clock.{Clock}
+use Rattle.event.specs.Event.{stepOf}
 use Rattle.event.specs.declared.event.Call.{Call}
 use Rattle.event.specs.declared.event.Call.the-variants.{Tick, Setting, Request, Reading}
 use Rattle.event.specs.declared.event.Event.{Event}
-use Rattle.bounds.specs.Calls.{next, accepted, takesOffset, rolls, clockAfter}
+use Rattle.bounds.specs.Calls.{Answers, next, accepted, takesOffset, rolls, clockBy}
 use Rattle.bounds.specs.Singly.{singly}
 
 pub record Since : Type 0 where
@@ -42,9 +43,15 @@ sinceFrom rules n (e ∷ es) = sinceFrom (next rules e) (callSince rules e n) es
 abbrev pub sinceOf : ℕ → List Event → Since
 sinceOf kind events = sinceFrom (freshClock kind) noOffset (singly kind events)
 
--- the earlier update that a clock holds: none without an offset, and else the rollovers since it, "at most 1,024"
+-- the earlier update that a clock holds: none without an offset, and else the rollovers since it, "at most
+-- 1,024"
 abbrev pub heldUpdate : Since → Update
 heldUpdate n = cond (n .offset) (record { updated = 1; interval = min (n .rollovers) longestInterval }) noUpdate
 
+-- of what answers, after any list of events on a fresh clock of a kind
+abbrev pub IntervalBy : Answers → Type 0
+IntervalBy answers =
+    (kind : ℕ) (events : List Event) → updateOf (clockBy answers kind events) ≡ heldUpdate (sinceOf kind events)
+
 abbrev pub IntervalOfEveryList : Type 0
-IntervalOfEveryList = (kind : ℕ) (events : List Event) → updateOf (clockAfter kind events) ≡ heldUpdate (sinceOf kind events)
+IntervalOfEveryList = IntervalBy stepOf

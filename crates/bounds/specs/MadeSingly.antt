@@ -10,13 +10,13 @@ use Rattle.event.specs.declared.event.Call.the-variants.{Tick}
 use Rattle.event.specs.declared.event.Event.{Event}
 use Rattle.event.specs.declared.event.Event.the-variants.{Call, CatchUp}
 use Rattle.event.specs.declared.event.Stepped.{Stepped}
-use Rattle.bounds.specs.Calls.{after, clockFrom}
+use Rattle.bounds.specs.Calls.{Answers, afterBy, after, clockFrom}
 use Rattle.bounds.specs.Singly.{singleTicks, singleCalls, singlyFrom}
 use Rattle.bounds.specs.Book.{bookFrom}
 use Rattle.bounds.specs.Demand.{bookOn}
 
--- Where the single ticks of c end that are answered with a: "until ceiling, rollover or first refusal". The ceiling comes first: at it no
--- refusal is looked for. The only refusal that a tick can meet here is 3.
+-- Where the single ticks of c end that are answered with a: "until ceiling, rollover or first refusal". The
+-- ceiling comes first: at it no refusal is looked for. The only refusal that a tick can meet here is 3.
 pub data EndsAt (c : Clock) (ceiling : ℕ) (stop : Bool) (a : Stepped) : Type 0 where
   atCeiling : a .count ≡ ceiling → a .«tick_refusal» ≡ 0 → EndsAt c ceiling stop a
   atRollover : stop ≡ true → (last : ℕ) → a .count ≡ suc last → rollsOver (after c (singleTicks last)) ≡ true → a .«tick_refusal» ≡ 0
@@ -40,11 +40,11 @@ pub record Untouched (c : Clock) (a : Stepped) : Type 0 where
   pub tickRefusal : a .«tick_refusal» ≡ 0
   pub clock : a .clock ≡ c
 
--- the answer of an event that gets `got`, where its single calls get c
-abbrev pub AnswersAs : Clock → Clock → Event → Type 0
-AnswersAs got c (Call e) = stepOf got (Call e) ≡ answerOf c e
-AnswersAs got c (CatchUp ceiling stop) =
-    let a = stepOf got (CatchUp ceiling stop) in
+-- what answers an event that gets `got`, where its single calls get c
+abbrev pub AnswersAs : Answers → Clock → Clock → Event → Type 0
+AnswersAs answers got c (Call e) = answers got (Call e) ≡ answerOf c e
+AnswersAs answers got c (CatchUp ceiling stop) =
+    let a = answers got (CatchUp ceiling stop) in
     (a .refusal ≡ 0 → Ticked c ceiling stop a) × ((a .refusal ≡ 0 → ⊥) → Untouched c a)
 
 -- the clock after some events on a clock, their ticks made singly
@@ -52,21 +52,25 @@ abbrev pub singlyAfter : Clock → List Event → Clock
 singlyAfter start events = after start (singlyFrom start events)
 
 -- An event of a list, with those before it and those after it.
-pub record InPlace (start : Clock) (before later : List Event) (e : Event) : Type 0 where
+pub record InPlace (answers : Answers) (start : Clock) (before later : List Event) (e : Event) : Type 0 where
   -- its single calls stand in its place
   pub place : singlyFrom start (before ++ (e ∷ later))
       ≡ singlyFrom start before ++ (singleCalls (clockFrom start before) e ++ singlyFrom (clockFrom start (before ++ (e ∷ []))) later)
   -- it answers as they do
-  pub answers : AnswersAs (clockFrom start before) (singlyAfter start before) e
+  pub answered : AnswersAs answers (afterBy answers start before) (singlyAfter start before) e
   -- the book goes on with them from the clock that it gets
   pub book : bookOn start (before ++ (e ∷ []))
       ≡ bookFrom (clockFrom start before) (bookOn start before) (singleCalls (clockFrom start before) e)
 
--- a list of events, and its ticks made singly
-pub record MadeSingly (start : Clock) (events : List Event) : Type 0 where
-  pub clock : clockFrom start events ≡ singlyAfter start events
-  pub each : (before later : List Event) (e : Event) → events ≡ before ++ (e ∷ later) → InPlace start before later e
+-- of what answers: a list of events, and its ticks made singly by the rules
+pub record MadeSingly (answers : Answers) (start : Clock) (events : List Event) : Type 0 where
+  pub clock : afterBy answers start events ≡ singlyAfter start events
+  pub each : (before later : List Event) (e : Event) → events ≡ before ++ (e ∷ later)
+      → InPlace answers start before later e
 
 -- on any clock: a fresh one, or one that a setting is accepted on
+abbrev pub MadeSinglyBy : Answers → Type 0
+MadeSinglyBy answers = (start : Clock) (events : List Event) → MadeSingly answers start events
+
 abbrev pub EveryListMadeSingly : Type 0
-EveryListMadeSingly = (start : Clock) (events : List Event) → MadeSingly start events
+EveryListMadeSingly = MadeSinglyBy stepOf

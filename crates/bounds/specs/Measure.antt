@@ -1,5 +1,6 @@
--- What the book of a clock is kept in, for each kind of device: "976 9/16 us for each tick; 1/1,024 in place of 1/256, for frequency, for
--- shares and for the account of one offset (so exact time is kept in 2^-34 us); forward at least 976 n us".
+-- What the book of a clock is kept in, for each kind of device: "976 9/16 us for each tick; 1/1,024 in place
+-- of 1/256, for frequency, for shares and for the account of one offset (so exact time is kept in 2^-34 us);
+-- forward at least 976 n us".
 use Prim.Native.Nat.{ℕ, _+_, _*_, _/_, _^_}
 use mathlib.Core.Path.{_≡_}
 use mathlib.Core.Bool.{cond}
@@ -13,7 +14,8 @@ pub record Measure : Type 0 where
   pub perMicro : ℕ
   -- the time of a tick (units of exact time)
   pub tick : ℕ
-  -- the parts of a second, one of which a tick counts of the frequency, of the share, and of what an offset has moved
+  -- the parts of a second, one of which a tick counts of the frequency, of the share, and of what an offset
+  -- has moved
   pub parts : ℕ
   -- the least that a tick moves the clock forward (us)
   pub least : ℕ
@@ -29,15 +31,16 @@ measure1024 = record { perMicro = 2 ^ 34; tick = 976 * 2 ^ 34 + 9 * (2 ^ 34 / 16
 unfoldable pub measureOf : ℕ → Measure
 measureOf kind = cond (eqb kind kind1024) measure1024 measure256
 
--- units of exact time in one part of a frequency unit (2^-24 us per second), and in one part of an offset unit (2^-14 us)
+-- units of exact time in one part of a frequency unit (2^-24 us per second), and in one part of an offset
+-- unit (2^-14 us)
 abbrev pub perFrequency : ℕ
 perFrequency = 1
 
 abbrev pub perShare : ℕ
 perShare = 2 ^ 10
 
--- that they are: 1/256 of 2^-24 us is 2^-32 us and 1/256 of 2^-14 us is 2^-22 us; 1/1,024 of them is 2^-34 us and 2^-24 us. And a part of a phase unit,
--- 1/16 of 2^-28 us or 1/64 of it, is a unit of exact time
+-- that they are: 1/256 of 2^-24 us is 2^-32 us and 1/256 of 2^-14 us is 2^-22 us; 1/1,024 of them is 2^-34 us
+-- and 2^-24 us. And a part of a phase unit, 1/16 of 2^-28 us or 1/64 of it, is a unit of exact time
 abbrev pub InUnits : Device → Measure → Type 0
 InUnits d m =
     (perFrequency * (frequencyUnitsPerPpm * m .parts) ≡ m .perMicro)

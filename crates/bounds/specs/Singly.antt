@@ -1,4 +1,5 @@
--- Document 02, Req 01: "Demand 3 counts these ticks as if made singly." A list of events as a list of single calls.
+-- Document 02, Req 01: "Demand 3 counts these ticks as if made singly." A list of events as a list of single
+-- calls.
 use Prim.Native.Nat.{ℕ, zero, suc}
 use mathlib.Core.List.{List, [], _∷_, _++_}
 use Rattle.state.specs.State.{freshClock}

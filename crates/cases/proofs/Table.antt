@@ -1,4 +1,4 @@
--- Every marked case holds: computed.
+-- Every marked case is there and holds: computed.
 use mathlib.Core.Path.{refl}
 use Rattle.state.specs.Device.{deviceOf}
 use Rattle.state.specs.State.{inRange}
@@ -9,5 +9,6 @@ use Rattle.request.specs.Request.{requestRefusal, requested, requestOf}
 use Rattle.cases.specs.Cases.{MarkedCases}
 
 pub marked-cases : MarkedCases
-unfolding deviceOf inRange rolledOver unitIn ticked tickRefusal tickOf settingRefusal settingOf requestRefusal requested requestOf
-marked-cases = refl
+unfolding deviceOf inRange rolledOver unitIn ticked tickRefusal tickOf settingRefusal settingOf requestRefusal
+    requested requestOf
+marked-cases = record { named = refl; hold = refl }

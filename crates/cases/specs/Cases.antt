@@ -1,12 +1,14 @@
--- "Marked cases (proved together)", the two edges at the last second, and the interval, the second device, an offset too soon and the kept remainder of
--- document 02: a table with a row for each, and what it means that a row holds. A row starts at a fresh clock of kind 0, or of the kind that it
--- names, but for the fields that it names. Where it says "rollover", ticks are made up to and with the next that rolls over.
+-- "Marked cases (proved together)", the two edges at the last second, and the interval, the second device, an
+-- offset too soon and the kept remainder of document 02: a table with a row for each, and what it means that
+-- a row holds. A row starts at a fresh clock of kind 0, or of the kind that it names, but for the fields that
+-- it names. Where it says "rollover", ticks are made up to and with the next that rolls over.
 use Prim.Native.Nat.{ℕ, zero, suc, _+_}
 use mathlib.Core.Path.{_≡_}
 use mathlib.Core.Bool.{Bool, true, _&&_, cond}
 use mathlib.Core.List.{List, [], _∷_}
 use lib.Dec.{eqb}
 use lib.IntN.{ℤ, pos, negℤ}
+use lib.ListN.{length}
 use lib.Signed.{leZ}
 use Rattle.state.specs.Units.{offsetUnits, phaseUnits, phaseParts, frequencyUnits}
 use Rattle.state.specs.Units.{micros as us}
@@ -15,6 +17,7 @@ use Rattle.state.specs.State.{freshClock, errorsOf, whole, statusOk, statusIns,
 use Rattle.clock.specs.Tick.{carry, rollsOver}
 use Rattle.state.specs.declared.state.Clock.{Clock}
 use Rattle.request.specs.Request.{modeBits}
+use Rattle.request.specs.declared.request.Request as asked
 use Rattle.event.specs.Event.{answerOf}
 use Rattle.event.specs.declared.event.Call.{Call}
 use Rattle.event.specs.declared.event.Call.the-variants as call
@@ -54,7 +57,8 @@ signedCode adjustment = 3
 signedCode remainder = 4
 signedCode leftover = 5
 
--- What a row starts with, where that is not fresh. No row can start with a negative count, a carry or a refusal: there is no way to say so.
+-- What a row starts with, where that is not fresh. No row can start with a negative count, a carry or a
+-- refusal: there is no way to say so.
 pub data Start : Type 0 where
   countStart : CountField → ℕ → Start
   signedStart : SignedField → ℤ → Start
@@ -108,7 +112,8 @@ given ss =
       status = countOr ss status (fresh .status);
     })
 
--- after some calls: the clock that the last one got, what it was refused with, and the clock that it handed back
+-- after some calls: the clock that the last one got, what it was refused with, and the clock that it handed
+-- back
 pub record Seen : Type 0 where
   pub got : Clock
   pub refused : ℕ
@@ -200,7 +205,9 @@ allStages [] c = true
 allStages (g ∷ gs) c =
     isDone (g .doing) (does (g .doing) c) && allSeen (g .then) (does (g .doing) c) && allStages gs (does (g .doing) c .clock)
 
+-- a row, by the number that it is cited by
 pub record Case : Type 0 where
+  pub name : ℕ
   pub from : List Start
   pub stages : List Stage
 
@@ -212,14 +219,13 @@ infixl 70 _then_
 abbrev pub _then_ : Doing → List Value → Stage
 d then vs = record { doing = d; then = vs }
 
-abbrev pub row : List Start → List Stage → Case
-row f gs = record { from = f; stages = gs }
+abbrev pub row : ℕ → List Start → List Stage → Case
+row n f gs = record { name = n; from = f; stages = gs }
 
 -- a request of this mode, with an offset in us and a time constant, and all else 0
-abbrev pub requests : ℕ → ℤ → ℕ → Call
-requests mode o k =
-    call.Request
-    (record {
+abbrev pub requestFor : ℕ → ℤ → ℕ → asked.Request
+requestFor mode o k =
+    record {
       mode = mode;
       offset = record { 0 = o };
       frequency = record { 0 = pos 0 };
@@ -227,7 +233,10 @@ requests mode o k =
       esterror = record { 0 = 0 };
       status = 0;
       constant = k;
-    })
+    }
+
+abbrev pub requests : ℕ → ℤ → ℕ → Call
+requests mode o k = call.Request (requestFor mode o k)
 
 -- one that selects an offset (us), and nothing else
 abbrev pub asks : ℤ → Call
@@ -244,56 +253,58 @@ asksNothing = requests 0 (pos 0) 0
 abbrev pub set : ℕ → ℕ → Call
 set s u = call.Setting s (record { 0 = u })
 
--- The table of document 01, row by row ("frequency unchanged" at two frequencies; document 02: "the marked interval 5,000 becomes 1,024"),
--- after it the two edges, and then document 02's: the interval across an inserted and a deleted second, up to its limit, and none without an
--- offset or after a setting; the second device by the rows of the first, its kind kept by a setting, and no third; an offset a rollover too
--- soon, which leaves the interval, and in time, which sets it back; and the remainder: worked out at a rollover, with the frequency's sign, and in
--- force from the tick after it on; a unit that is just reached, up and down, and one that is not; a unit that c is taken with, and that refusal 3 is
--- judged with; a setting, which clears the leftover and works the remainder out; a leftover and a remainder in force at a rollover; and the ends of
--- both ranges, on either device.
+-- The table of document 01, row by row ("frequency unchanged" at two frequencies; document 02: "the marked
+-- interval 5,000 becomes 1,024"), after it the two edges, and then document 02's: the interval across an
+-- inserted and a deleted second, up to its limit, and none without an offset or after a setting; the second
+-- device by the rows of the first, its kind kept by a setting, and no third; an offset a rollover too soon,
+-- which leaves the interval, and in time, which sets it back; and the remainder: worked out at a rollover,
+-- with the frequency's sign, and in force from the tick after it on; a unit that is just reached, up and
+-- down, and one that is not; a unit that c is taken with, and that refusal 3 is judged with; a setting, which
+-- clears the leftover and works the remainder out; a leftover and a remainder in force at a rollover; and the
+-- ends of both ranges, on either device.
 abbrev pub markedCases : List Case
 markedCases =
-    row []
+    row 1 []
     (tickTimes 255 then (seconds is 0 ∷ micros is 996093 ∷ phase isℤ pos 201326592 ∷ []) ∷ [])
-    ∷ row []
+    ∷ row 2 []
     (tickTimes 256 then (seconds is 1 ∷ micros is 0 ∷ phase isℤ pos 0 ∷ []) ∷ [])
-    ∷ row (constant ≔ 0 ∷ frequency ≔ℤ pos 0 ∷ [])
+    ∷ row 3 (constant ≔ 0 ∷ frequency ≔ℤ pos 0 ∷ [])
     (callOf (asks (pos 1000)) then (refusal 0 ∷ [])
     ∷ rollover then (seconds is 1 ∷ left isℤ pos 16368000 ∷ adjustment isℤ pos 68132864 ∷ []) ∷ [])
-    ∷ row (constant ≔ 4 ∷ frequency ≔ℤ pos 0 ∷ [])
+    ∷ row 4 (constant ≔ 4 ∷ frequency ≔ℤ pos 0 ∷ [])
     (callOf (asks (pos 1000)) then (refusal 0 ∷ [])
     ∷ rollover then (seconds is 1 ∷ left isℤ pos 16383000 ∷ adjustment isℤ pos 67172864 ∷ []) ∷ [])
-    ∷ row (left ≔ℤ negℤ (pos 1023) ∷ constant ≔ 0 ∷ frequency ≔ℤ negℤ (pos 1) ∷ [])
+    ∷ row 5 (left ≔ℤ negℤ (pos 1023) ∷ constant ≔ 0 ∷ frequency ≔ℤ negℤ (pos 1) ∷ [])
     (rollover then (seconds is 1 ∷ left isℤ negℤ (pos 1023) ∷ adjustment isℤ pos 67108864 ∷ []) ∷ [])
-    ∷ row (updated ≔ 1 ∷ interval ≔ 64 ∷ constant ≔ 4 ∷ [])
+    ∷ row 6 (updated ≔ 1 ∷ interval ≔ 64 ∷ constant ≔ 4 ∷ [])
     (callOf (asks (negℤ (pos 1))) then (refusal 0 ∷ left isℤ negℤ (pos 16384) ∷ frequency isℤ pos 0 ∷ []) ∷ [])
-    ∷ row (updated ≔ 1 ∷ interval ≔ 64 ∷ constant ≔ 4 ∷ frequency ≔ℤ pos 1000000 ∷ [])
+    ∷ row 6 (updated ≔ 1 ∷ interval ≔ 64 ∷ constant ≔ 4 ∷ frequency ≔ℤ pos 1000000 ∷ [])
     (callOf (asks (negℤ (pos 1))) then (refusal 0 ∷ left isℤ negℤ (pos 16384) ∷ frequency isℤ pos 1000000 ∷ []) ∷ [])
-    ∷ row (updated ≔ 1 ∷ interval ≔ 1024 ∷ constant ≔ 0 ∷ frequency ≔ℤ pos 0 ∷ [])
+    ∷ row 7 (updated ≔ 1 ∷ interval ≔ 1024 ∷ constant ≔ 0 ∷ frequency ≔ℤ pos 0 ∷ [])
     (callOf (asks (pos 127999)) then (refusal 0 ∷ frequency isℤ pos 131070976 ∷ []) ∷ [])
-    ∷ row (phase ≔ℤ pos 268435455 ∷ adjustment ≔ℤ pos 303037440 ∷ [])
+    ∷ row 8 (phase ≔ℤ pos 268435455 ∷ adjustment ≔ℤ pos 303037440 ∷ [])
     (tickTimes 1 then (carried (pos 2) ∷ micros is 3908 ∷ phase isℤ pos 34601983 ∷ []) ∷ [])
-    ∷ row (phase ≔ℤ negℤ (pos 200000000) ∷ adjustment ≔ℤ negℤ (pos 168819712) ∷ [])
+    ∷ row 9 (phase ≔ℤ negℤ (pos 200000000) ∷ adjustment ≔ℤ negℤ (pos 168819712) ∷ [])
     (tickTimes 1 then (carried (negℤ (pos 1)) ∷ micros is 3905 ∷ phase isℤ negℤ (pos 100384256) ∷ []) ∷ [])
-    ∷ row (seconds ≔ 86399 ∷ status ≔ statusIns ∷ [])
+    ∷ row 10 (seconds ≔ 86399 ∷ status ≔ statusIns ∷ [])
     (rollover then (seconds is 86399 ∷ status is statusOop ∷ [])
     ∷ rollover then (seconds is 86400 ∷ status is statusOk ∷ []) ∷ [])
-    ∷ row (seconds ≔ 86398 ∷ status ≔ statusDel ∷ [])
+    ∷ row 11 (seconds ≔ 86398 ∷ status ≔ statusDel ∷ [])
     (rollover then (seconds is 86400 ∷ status is statusOk ∷ []) ∷ [])
-    ∷ row []
+    ∷ row 12 []
     (callOf (set 4294967295 996093) then (refusal 0 ∷ [])
     ∷ tickTimes 1 then (refusal 0 ∷ [])
     ∷ tickTimes 1 then (refusal 3 ∷ []) ∷ [])
-    ∷ row []
+    ∷ row 13 []
     (callOf (set 4294967295 996094) then (refusal 0 ∷ [])
     ∷ tickTimes 1 then (refusal 3 ∷ []) ∷ [])
-    ∷ row (seconds ≔ 86399 ∷ status ≔ statusIns ∷ updated ≔ 1 ∷ interval ≔ 63 ∷ [])
+    ∷ row 14 (seconds ≔ 86399 ∷ status ≔ statusIns ∷ updated ≔ 1 ∷ interval ≔ 63 ∷ [])
     (rollover then (seconds is 86399 ∷ interval is 64 ∷ [])
     ∷ rollover then (seconds is 86400 ∷ interval is 65 ∷ []) ∷ [])
-    ∷ row (seconds ≔ 86398 ∷ status ≔ statusDel ∷ updated ≔ 1 ∷ interval ≔ 1023 ∷ [])
+    ∷ row 15 (seconds ≔ 86398 ∷ status ≔ statusDel ∷ updated ≔ 1 ∷ interval ≔ 1023 ∷ [])
     (rollover then (seconds is 86400 ∷ interval is 1024 ∷ [])
     ∷ rollover then (seconds is 86401 ∷ interval is 1024 ∷ []) ∷ [])
-    ∷ row []
+    ∷ row 16 []
     (rollover then (updated is 0 ∷ interval is 0 ∷ [])
     ∷ callOf (asks (pos 1000)) then (refusal 0 ∷ updated is 1 ∷ interval is 0 ∷ [])
     ∷ rollover then (updated is 1 ∷ interval is 1 ∷ [])
@@ -301,69 +312,100 @@ markedCases =
     ∷ callOf asksNothing then (refusal 0 ∷ updated is 1 ∷ interval is 1 ∷ [])
     ∷ callOf (set 0 0) then (refusal 0 ∷ updated is 0 ∷ interval is 0 ∷ [])
     ∷ callOf (asks (pos 1000)) then (refusal 0 ∷ updated is 1 ∷ interval is 0 ∷ []) ∷ [])
-    ∷ row (kind ≔ kind1024 ∷ [])
+    ∷ row 17 (kind ≔ kind1024 ∷ [])
     (tickTimes 1023 then (seconds is 0 ∷ micros is 999023 ∷ phase isℤ pos 117440512 ∷ []) ∷ [])
-    ∷ row (kind ≔ kind1024 ∷ [])
+    ∷ row 18 (kind ≔ kind1024 ∷ [])
     (tickTimes 1024 then (seconds is 1 ∷ micros is 0 ∷ phase isℤ pos 0 ∷ []) ∷ [])
-    ∷ row (kind ≔ kind1024 ∷ constant ≔ 0 ∷ frequency ≔ℤ pos 0 ∷ [])
+    ∷ row 19 (kind ≔ kind1024 ∷ constant ≔ 0 ∷ frequency ≔ℤ pos 0 ∷ [])
     (callOf (asks (pos 1000)) then (refusal 0 ∷ [])
     ∷ rollover then (seconds is 1 ∷ left isℤ pos 16368000 ∷ adjustment isℤ pos 151250944 ∷ []) ∷ [])
-    ∷ row (kind ≔ kind1024 ∷ constant ≔ 4 ∷ frequency ≔ℤ pos 0 ∷ [])
+    ∷ row 20 (kind ≔ kind1024 ∷ constant ≔ 4 ∷ frequency ≔ℤ pos 0 ∷ [])
     (callOf (asks (pos 1000)) then (refusal 0 ∷ [])
     ∷ rollover then (seconds is 1 ∷ left isℤ pos 16383000 ∷ adjustment isℤ pos 151010944 ∷ []) ∷ [])
-    ∷ row (kind ≔ kind1024 ∷ left ≔ℤ negℤ (pos 1023) ∷ constant ≔ 0 ∷ frequency ≔ℤ negℤ (pos 63) ∷ [])
+    ∷ row 21 (kind ≔ kind1024 ∷ left ≔ℤ negℤ (pos 1023) ∷ constant ≔ 0 ∷ frequency ≔ℤ negℤ (pos 63) ∷ [])
     (rollover then (seconds is 1 ∷ left isℤ negℤ (pos 1023) ∷ adjustment isℤ pos 150994944 ∷ []) ∷ [])
-    ∷ row (kind ≔ kind1024 ∷ phase ≔ℤ pos 268435455 ∷ adjustment ≔ℤ pos 209977088 ∷ [])
+    ∷ row 22 (kind ≔ kind1024 ∷ phase ≔ℤ pos 268435455 ∷ adjustment ≔ℤ pos 209977088 ∷ [])
     (tickTimes 1 then (carried (pos 1) ∷ micros is 977 ∷ phase isℤ pos 209977087 ∷ []) ∷ [])
-    ∷ row (kind ≔ kind1024 ∷ phase ≔ℤ negℤ (pos 200000000) ∷ adjustment ≔ℤ pos 92012800 ∷ [])
+    ∷ row 23 (kind ≔ kind1024 ∷ phase ≔ℤ negℤ (pos 200000000) ∷ adjustment ≔ℤ pos 92012800 ∷ [])
     (tickTimes 1 then (carried (pos 0) ∷ micros is 976 ∷ phase isℤ negℤ (pos 107987200) ∷ []) ∷ [])
-    ∷ row (kind ≔ kind1024 ∷ frequency ≔ℤ pos 6400 ∷ [])
+    ∷ row 24 (kind ≔ kind1024 ∷ frequency ≔ℤ pos 6400 ∷ [])
     (callOf (set 5 0) then (refusal 0 ∷ kind is kind1024 ∷ adjustment isℤ pos 150995044 ∷ []) ∷ [])
-    ∷ row (kind ≔ 2 ∷ [])
+    ∷ row 25 (kind ≔ 2 ∷ [])
     (callOf (set 5 0) then (refusal 1 ∷ kind is 2 ∷ seconds is 0 ∷ []) ∷ [])
-    ∷ row (updated ≔ 1 ∷ interval ≔ 63 ∷ [])
+    ∷ row 26 (updated ≔ 1 ∷ interval ≔ 63 ∷ [])
     (callOf (asks (pos 1000)) then (refusal 17 ∷ left isℤ pos 0 ∷ updated is 1 ∷ interval is 63 ∷ [])
     ∷ callOf (asksAt 5 (pos 1000)) then (refusal 9 ∷ [])
     ∷ callOf asksNothing then (refusal 0 ∷ interval is 63 ∷ [])
     ∷ rollover then (interval is 64 ∷ [])
     ∷ callOf (asks (pos 1000)) then (refusal 0 ∷ left isℤ pos 16384000 ∷ frequency isℤ pos 64000 ∷ interval is 0 ∷ []) ∷ [])
-    ∷ row (micros ≔ 996094 ∷ frequency ≔ℤ negℤ (pos 17) ∷ [])
+    ∷ row 27 (micros ≔ 996094 ∷ frequency ≔ℤ negℤ (pos 17) ∷ [])
     (rollover then (seconds is 1 ∷ micros is 0 ∷ adjustment isℤ pos 67108863 ∷ remainder isℤ negℤ (pos 1) ∷ leftover isℤ pos 0 ∷ [])
     ∷ tickTimes 1 then (phase isℤ pos 134217727 ∷ leftover isℤ negℤ (pos 1) ∷ [])
     ∷ tickTimes 14 then (phase isℤ pos 268435441 ∷ leftover isℤ negℤ (pos 15) ∷ [])
     ∷ tickTimes 1 then (carried (pos 1) ∷ micros is 62500 ∷ phase isℤ pos 67108847 ∷ leftover isℤ pos 0 ∷ []) ∷ [])
-    ∷ row (kind ≔ kind1024 ∷ micros ≔ 999024 ∷ frequency ≔ℤ pos 191 ∷ [])
+    ∷ row 28 (kind ≔ kind1024 ∷ micros ≔ 999024 ∷ frequency ≔ℤ pos 191 ∷ [])
     (rollover then (seconds is 1 ∷ micros is 0 ∷ adjustment isℤ pos 150994946 ∷ remainder isℤ pos 63 ∷ leftover isℤ pos 0 ∷ [])
     ∷ tickTimes 1 then (carried (pos 1) ∷ phase isℤ pos 33554434 ∷ leftover isℤ pos 63 ∷ [])
     ∷ tickTimes 1 then (carried (pos 0) ∷ phase isℤ pos 184549381 ∷ leftover isℤ pos 62 ∷ []) ∷ [])
-    ∷ row (remainder ≔ℤ pos 1 ∷ leftover ≔ℤ pos 15 ∷ [])
+    ∷ row 29 (remainder ≔ℤ pos 1 ∷ leftover ≔ℤ pos 15 ∷ [])
     (tickTimes 1 then (phase isℤ pos 67108865 ∷ remainder isℤ pos 1 ∷ leftover isℤ pos 0 ∷ []) ∷ [])
-    ∷ row (remainder ≔ℤ negℤ (pos 15) ∷ leftover ≔ℤ negℤ (pos 1) ∷ [])
+    ∷ row 30 (remainder ≔ℤ negℤ (pos 15) ∷ leftover ≔ℤ negℤ (pos 1) ∷ [])
     (tickTimes 1 then (phase isℤ pos 67108863 ∷ leftover isℤ pos 0 ∷ []) ∷ [])
-    ∷ row (remainder ≔ℤ negℤ (pos 15) ∷ leftover ≔ℤ pos 15 ∷ [])
+    ∷ row 31 (remainder ≔ℤ negℤ (pos 15) ∷ leftover ≔ℤ pos 15 ∷ [])
     (tickTimes 2 then (phase isℤ pos 134217728 ∷ leftover isℤ negℤ (pos 15) ∷ [])
     ∷ tickTimes 1 then (phase isℤ pos 201326591 ∷ leftover isℤ negℤ (pos 14) ∷ []) ∷ [])
-    ∷ row (phase ≔ℤ pos 201326591 ∷ remainder ≔ℤ pos 1 ∷ leftover ≔ℤ pos 15 ∷ [])
+    ∷ row 32 (phase ≔ℤ pos 201326591 ∷ remainder ≔ℤ pos 1 ∷ leftover ≔ℤ pos 15 ∷ [])
     (tickTimes 1 then (carried (pos 1) ∷ micros is 3907 ∷ phase isℤ pos 0 ∷ leftover isℤ pos 0 ∷ []) ∷ [])
-    ∷ row (seconds ≔ 4294967295 ∷ micros ≔ 996093 ∷ phase ≔ℤ pos 201326591 ∷ remainder ≔ℤ pos 1 ∷ leftover ≔ℤ pos 15 ∷ [])
+    ∷ row 33 (seconds ≔ 4294967295 ∷ micros ≔ 996093 ∷ phase ≔ℤ pos 201326591 ∷ remainder ≔ℤ pos 1 ∷ leftover ≔ℤ pos 15 ∷ [])
     (tickTimes 1 then (refusal 3 ∷ micros is 996093 ∷ phase isℤ pos 201326591 ∷ leftover isℤ pos 15 ∷ []) ∷ [])
-    ∷ row (seconds ≔ 4294967295 ∷ micros ≔ 996093 ∷ phase ≔ℤ pos 201326591 ∷ remainder ≔ℤ pos 1 ∷ leftover ≔ℤ pos 14 ∷ [])
+    ∷ row 34 (seconds ≔ 4294967295 ∷ micros ≔ 996093 ∷ phase ≔ℤ pos 201326591 ∷ remainder ≔ℤ pos 1 ∷ leftover ≔ℤ pos 14 ∷ [])
     (tickTimes 1 then (refusal 0 ∷ micros is 999999 ∷ phase isℤ pos 268435455 ∷ leftover isℤ pos 15 ∷ []) ∷ [])
-    ∷ row (frequency ≔ℤ negℤ (pos 1677721599) ∷ remainder ≔ℤ pos 3 ∷ leftover ≔ℤ pos 7 ∷ [])
+    ∷ row 35 (frequency ≔ℤ negℤ (pos 1677721599) ∷ remainder ≔ℤ pos 3 ∷ leftover ≔ℤ pos 7 ∷ [])
     (callOf (set 5 0) then (refusal 0 ∷ adjustment isℤ negℤ (pos 37748735) ∷ remainder isℤ negℤ (pos 15) ∷ leftover isℤ pos 0 ∷ []) ∷ [])
-    ∷ row (micros ≔ 999999 ∷ frequency ≔ℤ pos 35 ∷ remainder ≔ℤ pos 5 ∷ leftover ≔ℤ pos 4 ∷ [])
+    ∷ row 36 (micros ≔ 999999 ∷ frequency ≔ℤ pos 35 ∷ remainder ≔ℤ pos 5 ∷ leftover ≔ℤ pos 4 ∷ [])
     (rollover then (seconds is 1 ∷ micros is 3905 ∷ adjustment isℤ pos 67108866 ∷ remainder isℤ pos 3 ∷ leftover isℤ pos 9 ∷ []) ∷ [])
-    ∷ row (kind ≔ kind1024 ∷ remainder ≔ℤ negℤ (pos 1) ∷ leftover ≔ℤ negℤ (pos 63) ∷ [])
+    ∷ row 37 (kind ≔ kind1024 ∷ remainder ≔ℤ negℤ (pos 1) ∷ leftover ≔ℤ negℤ (pos 63) ∷ [])
     (tickTimes 1 then (phase isℤ pos 150994943 ∷ leftover isℤ pos 0 ∷ []) ∷ [])
-    ∷ row (leftover ≔ℤ negℤ (pos 16) ∷ [])
+    ∷ row 38 (leftover ≔ℤ negℤ (pos 16) ∷ [])
     (tickTimes 1 then (refusal 1 ∷ leftover isℤ negℤ (pos 16) ∷ []) ∷ [])
-    ∷ row (kind ≔ kind1024 ∷ leftover ≔ℤ pos 64 ∷ [])
+    ∷ row 39 (kind ≔ kind1024 ∷ leftover ≔ℤ pos 64 ∷ [])
     (tickTimes 1 then (refusal 1 ∷ leftover isℤ pos 64 ∷ []) ∷ [])
-    ∷ row (remainder ≔ℤ pos 16 ∷ [])
+    ∷ row 40 (remainder ≔ℤ pos 16 ∷ [])
     (callOf (set 5 0) then (refusal 1 ∷ remainder isℤ pos 16 ∷ []) ∷ [])
-    ∷ row (kind ≔ kind1024 ∷ remainder ≔ℤ pos 16 ∷ leftover ≔ℤ negℤ (pos 63) ∷ [])
+    ∷ row 41 (kind ≔ kind1024 ∷ remainder ≔ℤ pos 16 ∷ leftover ≔ℤ negℤ (pos 63) ∷ [])
     (tickTimes 1 then (refusal 0 ∷ leftover isℤ negℤ (pos 47) ∷ []) ∷ [])
     ∷ []
 
-abbrev pub MarkedCases : Type 0
-MarkedCases = allCases markedCases ≡ true
+-- the name of a row, and how many values it says are seen
+pub record Heading : Type 0 where
+  pub name : ℕ
+  pub values : ℕ
+
+infixl 80 _shows_
+abbrev pub _shows_ : ℕ → ℕ → Heading
+n shows k = record { name = n; values = k }
+
+abbrev pub valuesIn : List Stage → ℕ
+valuesIn [] = 0
+valuesIn (g ∷ gs) = length (g .then) + valuesIn gs
+
+abbrev pub headings : List Case → List Heading
+headings [] = []
+headings (k ∷ ks) = (k .name shows valuesIn (k .stages)) ∷ headings ks
+
+-- The rows that there are: 1 to 11 document 01's, of which 6 is at two frequencies, 12 and 13 its edges at
+-- the last second; of document 02 the interval 14 to 16, the second device 17 to 25, an offset too soon 26,
+-- and the kept remainder 27 to 41.
+abbrev pub allHeadings : List Heading
+allHeadings =
+    1 shows 3 ∷ 2 shows 3 ∷ 3 shows 4 ∷ 4 shows 4 ∷ 5 shows 3 ∷ 6 shows 3 ∷ 6 shows 3 ∷ 7 shows 2
+    ∷ 8 shows 3 ∷ 9 shows 3 ∷ 10 shows 4 ∷ 11 shows 2 ∷ 12 shows 3 ∷ 13 shows 2 ∷ 14 shows 4 ∷ 15 shows 4
+    ∷ 16 shows 19 ∷ 17 shows 3 ∷ 18 shows 3 ∷ 19 shows 4 ∷ 20 shows 4 ∷ 21 shows 3 ∷ 22 shows 3
+    ∷ 23 shows 3 ∷ 24 shows 3 ∷ 25 shows 3 ∷ 26 shows 12 ∷ 27 shows 13 ∷ 28 shows 11 ∷ 29 shows 3
+    ∷ 30 shows 2 ∷ 31 shows 4 ∷ 32 shows 4 ∷ 33 shows 4 ∷ 34 shows 4 ∷ 35 shows 4 ∷ 36 shows 5 ∷ 37 shows 2
+    ∷ 38 shows 2 ∷ 39 shows 2 ∷ 40 shows 2 ∷ 41 shows 2 ∷ []
+
+-- every row is there, and each holds
+pub record MarkedCases : Type 0 where
+  pub named : headings markedCases ≡ allHeadings
+  pub hold : allCases markedCases ≡ true

@@ -1,0 +1,96 @@
+-- The other wrong clocks lack the promises that they are named for: each at one list, computed.
+use mathlib.Core.Path.{_≡_, refl, sym, ap}
+use mathlib.Core.Bool.{true, false, true≢false}
+use mathlib.Core.List.{[], _∷_}
+use Prim.Native.Nat.{ℕ}
+use lib.Dec.{eqb}
+use lib.IntN.{pos, natAbs}
+use borrow.Author.Tests.{eqb-false, ltb-true}
+use Rattle.state.specs.Device.{kind256, kind1024, deviceOf}
+use Rattle.state.specs.State.{Update, inRange}
+use Rattle.clock.specs.Reading.{readingOf, readingRefusal}
+use Rattle.clock.specs.Rollover.{rolledOver}
+use Rattle.clock.specs.Tick.{unitIn, ticked, tickRefusal, tickOf}
+use Rattle.clock.specs.Ticks.{ranOf, catchUpOf}
+use Rattle.clock.specs.Setting.{settingRefusal, settingOf}
+use Rattle.state.specs.declared.state.Clock.{Clock}
+use Rattle.state.specs.declared.units.AskedMicros.{AskedMicros}
+use Rattle.request.specs.Request.{requestRefusal, requested, requestOf}
+use Rattle.request.specs.declared.request.Request as asked
+use Rattle.event.specs.declared.event.Call.the-variants.{Tick, Request}
+use Rattle.event.specs.declared.event.Event.the-variants.{Call, CatchUp}
+use Rattle.cases.specs.Cases.{given, _≔_, _≔ℤ_, kind, micros, frequency, left, requestFor}
+use Rattle.bounds.specs.Calls.{Answers, afterBy, countAmongBy, noneAmongBy}
+use Rattle.bounds.specs.Singly.{singleTicks, singlyFrom, asEvents}
+use Rattle.bounds.specs.Book.{bookFrom}
+use Rattle.bounds.specs.Measure.{measureOf}
+use Rattle.bounds.specs.Interval.{sinceFrom}
+use Rattle.bounds.specs.MadeSingly.{Ticked, MadeSinglyBy}
+use Rattle.bounds.specs.WrongClocks.{asked}
+use Rattle.bounds.specs.OtherWrongClocks.{AlsoShutOutOfEachKind}
+use Rattle.bounds.proofs.ShutOut.{not-below, not-most}
+
+not-same : {a b : ℕ} → eqb a b ≡ false → a ≡ b → ⊥
+not-same {a} {b} e h = eqb-false a b e h
+
+-- clocks of a kind: at these microseconds; with an offset left; with a frequency
+abbrev at : ℕ → ℕ → Clock
+at k u = given (kind ≔ k ∷ micros ≔ u ∷ [])
+
+abbrev offsetLeft : ℕ → Clock
+offsetLeft k = given (kind ≔ k ∷ left ≔ℤ pos 1 ∷ [])
+
+abbrev faster : ℕ → Clock
+faster k = given (kind ≔ k ∷ frequency ≔ℤ pos 1 ∷ [])
+
+abbrev askedMicros : ℕ → AskedMicros
+askedMicros u = record { 0 = u }
+
+-- an offset of 1,000 us, asked for
+abbrev offset : asked.Request
+offset = requestFor 1 (pos 1000) 0
+
+-- what is promised of a catch-up that stops at a rollover, as the only event of a list
+caught : {answers : Answers} → MadeSinglyBy answers → (c : Clock) (ceiling : ℕ)
+    → answers c (CatchUp ceiling true) .refusal ≡ 0 → Ticked c ceiling true (answers c (CatchUp ceiling true))
+unfolding afterBy singlyFrom
+caught d c ceiling h = d c (CatchUp ceiling true ∷ []) .each [] [] (CatchUp ceiling true) refl .answered .0 h
+
+pub also-shut-out : AlsoShutOutOfEachKind
+unfolding deviceOf measureOf inRange readingOf readingRefusal rolledOver unitIn ticked tickRefusal tickOf
+    ranOf catchUpOf settingRefusal settingOf requestRefusal requested requestOf afterBy countAmongBy
+    noneAmongBy singleTicks singlyFrom asEvents bookFrom sinceFrom
+also-shut-out = (
+  record {
+    fresh = λ d. not-below refl (d .fresh kind256 refl (Call Tick ∷ []) .first .near);
+    set = λ d. not-below refl (d .set (offsetLeft kind256) 5 (askedMicros 0) [] refl .near);
+    held = λ d. not-same refl (ap natAbs (d .set (faster kind256) 5 (askedMicros 0) (Call Tick ∷ []) refl .held));
+    near = λ d. not-below refl (d .fresh kind256 refl [] .near);
+    heldSet = λ d. not-same refl (ap natAbs (d .set (offsetLeft kind256) 5 (askedMicros 0) [] refl .held));
+    clock = λ d. not-same refl (ap (λ (c : Clock). c .micros .0) (d (at kind256 0) (CatchUp 1 false ∷ []) .clock));
+    each = λ d. true≢false (caught d (at kind256 999999) 2 refl .onward 0 (ltb-true 1 2 refl));
+    most = λ d. not-most refl (caught d (at kind256 996093) 1 refl .most);
+    second = λ d. not-most refl (d (at kind256 999999) [] refl refl refl .least);
+    interval = λ d. not-same refl (ap (λ (u : Update). u .interval) (d kind256 (asked (Call Tick ∷ []))));
+    soon = λ d. true≢false (sym (d kind256 (Call (Request offset) ∷ []) offset));
+    apart = λ d.
+        not-most refl
+        (d (at kind256 0) (Call (Request offset) ∷ Call (Request offset) ∷ []) [] [] [] offset offset refl refl refl refl);
+  },
+  record {
+    fresh = λ d. not-below refl (d .fresh kind1024 refl (Call Tick ∷ []) .first .near);
+    set = λ d. not-below refl (d .set (offsetLeft kind1024) 5 (askedMicros 0) [] refl .near);
+    held = λ d. not-same refl (ap natAbs (d .set (faster kind1024) 5 (askedMicros 0) (Call Tick ∷ []) refl .held));
+    near = λ d. not-below refl (d .fresh kind1024 refl [] .near);
+    heldSet = λ d. not-same refl (ap natAbs (d .set (offsetLeft kind1024) 5 (askedMicros 0) [] refl .held));
+    clock = λ d. not-same refl (ap (λ (c : Clock). c .micros .0) (d (at kind1024 0) (CatchUp 1 false ∷ []) .clock));
+    each = λ d. true≢false (caught d (at kind1024 999999) 2 refl .onward 0 (ltb-true 1 2 refl));
+    most = λ d. not-most refl (caught d (at kind1024 999023) 1 refl .most);
+    second = λ d. not-most refl (d (at kind1024 999999) [] refl refl refl .least);
+    interval = λ d. not-same refl (ap (λ (u : Update). u .interval) (d kind1024 (asked (Call Tick ∷ []))));
+    soon = λ d. true≢false (sym (d kind1024 (Call (Request offset) ∷ []) offset));
+    apart = λ d.
+        not-most refl
+        (d (at kind1024 0) (Call (Request offset) ∷ Call (Request offset) ∷ []) [] [] [] offset offset refl refl refl refl);
+  },
+)

@@ -1,0 +1,128 @@
+-- Clocks that the other promises over lists shut out, and the quantifiers of demand 3 itself: for each
+-- promise a clock that is wrong in the way that it speaks of, on the devices of one kind alone.
+use Prim.Native.Nat.{ℕ, _+_}
+use mathlib.Core.Bool.{true, _&&_, not, cond}
+use lib.Dec.{eqb}
+use lib.IntN.{pos, natAbs}
+use Rattle.state.specs.Units.{micros, phaseParts}
+use Rattle.state.specs.Device.{kind256, kind1024}
+use Rattle.state.specs.State.{Time, Update, timeOf, correctionOf, tuningOf, updateOf, errorsOf, whole}
+use Rattle.state.specs.State.{noUpdate, lastMicro}
+use Rattle.state.specs.declared.state.Clock.{Clock}
+use Rattle.state.specs.declared.units.PhaseUnits.{PhaseUnits}
+use Rattle.state.specs.declared.units.PhaseParts.{PhaseParts}
+use Rattle.event.specs.Event.{answerOf, stepOf}
+use Rattle.event.specs.declared.event.Call.{Call as Single}
+use Rattle.event.specs.declared.event.Event.the-variants.{Call, CatchUp}
+use Rattle.event.specs.declared.event.Stepped.{Stepped}
+use Rattle.bounds.specs.Calls.{Answers, ticks, sets, rolls}
+use Rattle.bounds.specs.Demand.{Demand3By}
+use Rattle.bounds.specs.Lossless.{NothingLostBy}
+use Rattle.bounds.specs.MadeSingly.{MadeSinglyBy}
+use Rattle.bounds.specs.Seconds.{TicksOfASecondBy}
+use Rattle.bounds.specs.Interval.{IntervalBy}
+use Rattle.bounds.specs.Apart.{TooSoonBy, OffsetsApartBy}
+use Rattle.bounds.specs.WrongClocks.{leaving, callLeaves, reads, readsZero, oneMicroMore, countsOnly}
+
+-- wrong on clocks of a kind, and by the rules on others: so that what shuts it out speaks of that kind
+abbrev pub onKind : {E : Type 0} → ℕ → (rules wrong : Clock → E → Stepped) → Clock → E → Stepped
+onKind kind rules wrong c e = cond (eqb (c .kind) kind) (wrong c e) (rules c e)
+
+abbrev pub timeFrom : ℕ → ℕ → PhaseUnits → PhaseParts → Time
+timeFrom s u p l = record { seconds = s; micros = micros u; phase = p; leftover = l }
+
+-- a clock, but for its time
+abbrev pub timed : Time → Clock → Clock
+timed time c =
+    whole
+    (record {
+      kind = c .kind;
+      time = time;
+      correction = correctionOf c;
+      tuning = tuningOf c;
+      update = updateOf c;
+      errors = errorsOf c;
+      status = c .status;
+    })
+
+-- a clock, but for its earlier update
+abbrev pub updated : Update → Clock → Clock
+updated update c =
+    whole
+    (record {
+      kind = c .kind;
+      time = timeOf c;
+      correction = correctionOf c;
+      tuning = tuningOf c;
+      update = update;
+      errors = errorsOf c;
+      status = c .status;
+    })
+
+-- a setting is a second late on a clock that has an offset left and no earlier update; no list on a fresh
+-- clock leads to one, but a record may
+abbrev pub setsLate : Answers
+setsLate =
+    callLeaves (λ c e. sets c e && eqb (c .updated) 0 && not (eqb (natAbs (c .offset .0)) 0))
+    (λ got left. timed (timeFrom (left .seconds + 1) (left .micros .0) (left .phase) (left .leftover)) left)
+
+-- the leftover is dropped at each tick, as before Req 06
+abbrev pub dropsLeftover : Answers
+dropsLeftover =
+    callLeaves ticks
+    (λ got left. timed (timeFrom (left .seconds) (left .micros .0) (left .phase) (phaseParts (pos 0))) left)
+
+-- the clock holds its time, and each reading tells a microsecond more
+abbrev pub aheadAlways : Answers
+aheadAlways = reads (λ c r. oneMicroMore r)
+
+-- rollovers are not counted
+abbrev pub countsNoRollover : Answers
+countsNoRollover = callLeaves rolls (λ got left. updated (updateOf got) left)
+
+-- no call leaves an earlier update
+abbrev pub holdsNoUpdate : Answers
+holdsNoUpdate = callLeaves (λ c e. true) (λ got left. updated noUpdate left)
+
+-- a catch-up tells its ceiling as its count
+abbrev pub tellsCeiling : Answers
+tellsCeiling c (Call e) = stepOf c (Call e)
+tellsCeiling c (CatchUp ceiling stop) =
+    let a = stepOf c (CatchUp ceiling stop) in
+    record {
+      refusal = a .refusal;
+      count = ceiling;
+      «tick_refusal» = a .«tick_refusal»;
+      clock = a .clock;
+      reading = a .reading;
+    }
+
+-- a catch-up goes on for a tick past its ceiling
+abbrev pub overruns : Answers
+overruns c (Call e) = stepOf c (Call e)
+overruns c (CatchUp ceiling stop) = stepOf c (CatchUp (ceiling + 1) stop)
+
+-- a rollover leaves the clock at the end of its second, so that the next tick rolls over again
+abbrev pub lingers : Clock → Single → Stepped
+lingers c e =
+    let a = answerOf c e in
+    let d = a .clock in
+    leaving (cond (rolls c e) (timed (timeFrom (d .seconds) lastMicro (d .phase) (d .leftover)) d) d) a
+
+-- none of them keeps the promise that it is named for
+pub record AlsoShutOut (kind : ℕ) : Type 0 where
+  pub fresh : Demand3By (onKind kind stepOf readsZero) → ⊥
+  pub set : Demand3By (onKind kind stepOf setsLate) → ⊥
+  pub held : NothingLostBy (onKind kind stepOf dropsLeftover) → ⊥
+  pub near : NothingLostBy (onKind kind stepOf aheadAlways) → ⊥
+  pub heldSet : NothingLostBy (onKind kind stepOf setsLate) → ⊥
+  pub clock : MadeSinglyBy (onKind kind stepOf countsOnly) → ⊥
+  pub each : MadeSinglyBy (onKind kind stepOf tellsCeiling) → ⊥
+  pub most : MadeSinglyBy (onKind kind stepOf overruns) → ⊥
+  pub second : TicksOfASecondBy (onKind kind answerOf lingers) → ⊥
+  pub interval : IntervalBy (onKind kind stepOf countsNoRollover) → ⊥
+  pub soon : TooSoonBy (onKind kind stepOf holdsNoUpdate) → ⊥
+  pub apart : OffsetsApartBy (onKind kind stepOf holdsNoUpdate) → ⊥
+
+abbrev pub AlsoShutOutOfEachKind : Type 0
+AlsoShutOutOfEachKind = AlsoShutOut kind256 × AlsoShutOut kind1024
