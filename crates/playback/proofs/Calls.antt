@@ -13,6 +13,7 @@ use Rattle.state.specs.Device.{kind256}
 use Rattle.state.specs.State.{inRange, freshClock}
 use Rattle.state.specs.declared.state.Clock.{Clock}
 use Rattle.event.specs.Event.{stepOf}
+use Rattle.event.proofs.Kept.{tick-same}
 use Rattle.event.specs.declared.event.Call.the-variants.{Reading}
 use Rattle.event.specs.declared.event.Event as call
 use Rattle.event.specs.declared.event.Event.the-variants.{Call as single}
@@ -43,20 +44,16 @@ abbrev ticks : ℕ → List call.Event
 ticks n = asEvents (singleTicks n)
 
 -- a tick that is refused hands back the clock, and so do those after it
-refused-stays : (c : Clock) → eqb (tickOf c .refusal) 0 ≡ false → tickOf c .clock ≡ c
-unfolding tickOf
-refused-stays c t = simp t
-
 refused-ticks : (n : ℕ) (c : Clock) → eqb (tickOf c .refusal) 0 ≡ false → after c (ticks n) ≡ c
 unfolding afterBy singleTicks asEvents
 refused-ticks zero c t = refl
-refused-ticks (suc n) c t = ap (λ (d : Clock). after d (ticks n)) (refused-stays c t) ∙ refused-ticks n c t
+refused-ticks (suc n) c t = ap (λ (d : Clock). after d (ticks n)) (tick-same c t) ∙ refused-ticks n c t
 
 by-tick : (n : ℕ) (c : Clock) → after (tickOf c .clock) (ticks n) ≡ ticksOf n (tickOf c .clock) .clock → (b : Bool) → eqb (tickOf c .refusal) 0 ≡ b
     → after c (ticks (suc n)) ≡ ticksOf (suc n) c .clock
 unfolding afterBy singleTicks asEvents
 by-tick n c h true t = rw (ticks-one-more c n) (simp t h)
-by-tick n c h false t = rw (ticks-one-more c n) (simp t (refused-ticks (suc n) c t ∙ sym (refused-stays c t)))
+by-tick n c h false t = rw (ticks-one-more c n) (simp t (refused-ticks (suc n) c t ∙ sym (tick-same c t)))
 
 no-tick : (c : Clock) (b : Bool) → inRange c ≡ b → c ≡ ticksOf 0 c .clock
 unfolding ticksOf ranOf
