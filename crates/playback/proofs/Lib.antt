@@ -6,3 +6,4 @@ pub mod FillLaws
 pub mod Examples
 pub mod Repeated
 pub mod Calls
+pub mod WrongRuns

@@ -5,4 +5,5 @@ pub mod Run
 pub mod Filling
 pub mod Repeated
 pub mod Calls
+pub mod WrongRuns
 pub mod Inner
