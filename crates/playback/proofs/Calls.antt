@@ -30,7 +30,7 @@ use Rattle.clock.proofs.RunLaws.{ticks-one-more}
 use Rattle.playback.specs.Lines.{printLine}
 use Rattle.playback.specs.Event.{outcomeOf, lineOf}
 use Rattle.playback.specs.Run.{Advanced, longestHistory, startOfRun, endOf, step, runAfter, stepsToEnd, replayOf}
-use Rattle.playback.specs.Calls.{callsOfEvent, callsFrom, callsOfFirst, callsOf, PrintAt, Tells, Demand3OfEveryHistory}
+use Rattle.playback.specs.Calls.{callsOfEvent, callsFrom, callsOfFirst, PrintAt, Tells, replayer, allCalls, Demand3OfEveryHistory}
 use Rattle.playback.specs.declared.run.Run.{Run}
 use Rattle.playback.proofs.LineLaws.{reading-sound, line-print}
 use Rattle.playback.proofs.RunLaws.{step-long, step-end, step-found, run-ended, start-ends}
@@ -181,9 +181,12 @@ module _ (s : List ℕ) where
   clocks : (k : ℕ) → runAfter k s startOfRun .clock ≡ clockAfter kind256 (callsOfFirst k s)
   clocks k = by-length k (ltb longestHistory (length s)) refl
 
-  module _ (k : ℕ) (p : PrintAt s k) where
+  module _ (k : ℕ) (p : PrintAt replayer s k) where
     abbrev now : Run
     now = runAfter k s startOfRun
+
+    fits : length s ≤ longestHistory
+    fits = omega arith
 
     inside : Past s (now .place) (p .next)
     inside = event-past s (now .place) (p .print)
@@ -199,30 +202,39 @@ module _ (s : List ℕ) where
     unfolding more
     counted = omega (arith, before-end (leb (stepsToEnd s) k) refl)
 
-    among : callsOf s ≡ callsOfFirst k s ++ (single Reading ∷ callsFrom more s (p .next))
+    among : allCalls replayer s ≡ callsOfFirst k s ++ (single Reading ∷ callsFrom more s (p .next))
     unfolding callsOfFirst CallsOn
     among =
-        simp (le-ltb longestHistory (length s) (p .fits))
+        simp (le-ltb longestHistory (length s) fits)
         (ap (λ (j : ℕ). callsFrom j s 0) counted
-        ∙ calls-on s (p .fits) (suc more) k (freshClock kind256) 0
-        ∙ ap (λ (es : List call.Event). callsFrom k s 0 ++ es) (some-found s (p .fits) (now .place) (Call Reading) (p .next) (omega (arith, inside)) (p .print) more))
+        ∙ calls-on s fits (suc more) k (freshClock kind256) 0
+        ∙ ap (λ (es : List call.Event). callsFrom k s 0 ++ es) (some-found s fits (now .place) (Call Reading) (p .next) (omega (arith, inside)) (p .print) more))
 
     accepted : stepOf (clockAfter kind256 (callsOfFirst k s)) (single Reading) .refusal ≡ 0
     accepted = demand3 .fresh kind256 refl (callsOfFirst k s) .first .accepted
 
-    tells : Tells s k
+    shown-line : step s now .line ≡ printLine (clockAfter kind256 (callsOfFirst k s))
+    shown-line =
+        ap (λ (a : Advanced). a .line) (step-found s now (p .going) fits (omega (arith, inside)) (p .print))
+        ∙ ap (λ (c : Clock). lineOf c (Call Reading)) (clocks k)
+        ∙ print-shown (clockAfter kind256 (callsOfFirst k s)) accepted
+
+    tells : Tells stepOf replayer s k
     tells =
         record {
           later = callsFrom more s (p .next);
-          among = among;
-          refusal = accepted;
-          reading = reading-shown (clockAfter kind256 (callsOfFirst k s)) accepted;
-          line =
-              ap (λ (a : Advanced). a .line) (step-found s now (p .going) (p .fits) (omega (arith, inside)) (p .print))
-              ∙ ap (λ (c : Clock). lineOf c (Call Reading)) (clocks k)
-              ∙ print-shown (clockAfter kind256 (callsOfFirst k s)) accepted;
+          among = cc among;
+          refusal = cc accepted;
+          reading = cc (reading-shown (clockAfter kind256 (callsOfFirst k s)) accepted);
+          line = cc shown-line;
         }
 
 pub demand3-of-history : Demand3OfEveryHistory
 unfolding replayOf
-demand3-of-history s = record { demand = demand3 .fresh kind256 refl (callsOf s); clock = clocks s (stepsToEnd s); clocks = clocks s; prints = tells s }
+demand3-of-history s =
+    record {
+      demand = demand3 .fresh kind256 refl _;
+      clock = cc (clocks s (stepsToEnd s));
+      clocks = λ k. cc (clocks s k);
+      prints = tells s;
+    }

@@ -6,4 +6,6 @@ pub mod FillLaws
 pub mod Examples
 pub mod Repeated
 pub mod Calls
+pub mod Apart
 pub mod WrongRuns
+pub mod WrongReplays

@@ -1,13 +1,12 @@
 -- What the statements about runs shut out is shut out, computed.
 use mathlib.Core.Path.{_≡_, refl, ap}
-use mathlib.Core.Bool.{Bool, true, false, true≢false}
-use mathlib.Core.List.{List, [], _∷_}
+use mathlib.Core.Bool.{true, false, true≢false}
+use mathlib.Core.List.{List, [], _++_}
 use mathlib.Core.Logic.{_⊎_, inl, inr, ⊎-elim}
-use Prim.Native.Nat.{ℕ, zero, suc, _+_, _<_, _≤_}
+use Prim.Native.Nat.{ℕ, zero, suc, _≤_}
 use native.Mathlib.Omega.{arith}
-use lib.Dec.{eqb, leb}
-use lib.ListN.{length, getD}
-use borrow.Author.Tests.{leb-false, eqb-false}
+use lib.Dec.{eqb}
+use lib.ListN.{length}
 use Rattle.calendar.specs.Calendar.{dateOf}
 use Rattle.state.specs.Device.{deviceOf}
 use Rattle.state.specs.State.{inRange}
@@ -18,24 +17,12 @@ use Rattle.label.specs.Label.{labelOf}
 use Rattle.history.specs.Event.{argumentsAt, eventAt}
 use Rattle.playback.specs.Lines.{decimalFrom, decimal, printLine}
 use Rattle.playback.specs.Event.{outcomeOf, printedBy, printed, lineOf}
-use Rattle.playback.specs.Run.{startOfRun, endOf, step, runAfter, linesOf}
-use Rattle.playback.specs.Filling.{longestLine, Fills}
-use Rattle.playback.specs.WrongRuns.{onePrint, atEnd, blank, answer, WrongFills}
+use Rattle.playback.specs.Run.{Played, startOfRun, step, runAfter, linesOf, replayOf}
+use Rattle.playback.specs.Filling.{Fills}
+use Rattle.playback.specs.WrongRuns.{onePrint, atEnd, blank, answer, WrongFills, WrongRepeats}
 use Rattle.playback.specs.declared.run.Run.{Run}
 use Rattle.playback.specs.declared.run.Filling.{Filling}
-
-not-most : {a b : ℕ} → leb a b ≡ false → a ≤ b → ⊥
-not-most {a} {b} e h = omega (arith, leb-false a b e)
-
-not-same : {a b : ℕ} → eqb a b ≡ false → a ≡ b → ⊥
-not-same {a} {b} e h = eqb-false a b e h
-
--- two lists of other lengths, or with other first elements
-not-list : {a b : List ℕ} → eqb (length a) (length b) ≡ false → a ≡ b → ⊥
-not-list e h = not-same e (ap length h)
-
-not-first : {a b : List ℕ} → eqb (getD a 0 0) (getD b 0 0) ≡ false → a ≡ b → ⊥
-not-first e h = not-same e (ap (λ (l : List ℕ). getD l 0 0) h)
+use Rattle.playback.proofs.Apart.{not-most, not-same, length-apart, byte-apart}
 
 -- a call with 30 bytes makes one step at most of the print's two
 module _ {buf′ : List ℕ} {r : Filling} (f : Fills onePrint startOfRun (blank 30) buf′ r) where
@@ -61,7 +48,7 @@ place-apart e h = not-same e (ap (λ (r : Run). r .place) h)
 by-silent : (f : Fills onePrint startOfRun (blank 60) (blank 60) (answer 0 atEnd 0)) (k : ℕ) → f .steps ≡ k → ⊥
 unfolding deviceOf dateOf inRange readingRefusal readingOf leadingMore valueOf judged numberAt then argumentsAt eventAt labelOf decimalFrom decimal printLine outcomeOf printedBy printed lineOf step runAfter linesOf
 by-silent f zero e = ended-apart refl refl (rw e at (f .stands))
-by-silent f (suc k) e = not-first refl (rw e at (f .written))
+by-silent f (suc k) e = byte-apart 0 refl (rw e at (f .written))
 
 pub wrong-fills : WrongFills
 unfolding deviceOf dateOf inRange readingRefusal readingOf leadingMore valueOf judged numberAt then argumentsAt eventAt labelOf decimalFrom decimal printLine outcomeOf printedBy printed lineOf step runAfter linesOf
@@ -71,10 +58,25 @@ wrong-fills =
       idle = λ f. ⊎-elim (λ t. true≢false (cc)) (λ h. not-most refl h) (f .stopped);
       crowded = λ f. ⊎-elim (λ e. ended-apart refl refl (rw e at (f .stands))) (λ e. ended-apart refl refl (rw e at (f .stands))) (few f);
       late = λ f h. true≢false (f .onward 1 h .going);
-      stuck = λ f. ⊎-elim (λ e. not-list refl (rw e at (f .written))) (λ e. place-apart refl (rw e at (f .stands))) (few f);
-      unwritten = λ f. ⊎-elim (λ e. place-apart refl (rw e at (f .stands))) (λ e. not-first refl (rw e at (f .written))) (few f);
+      stuck = λ f. ⊎-elim (λ e. length-apart refl (rw e at (f .written))) (λ e. place-apart refl (rw e at (f .stands))) (few f);
+      unwritten = λ f. ⊎-elim (λ e. place-apart refl (rw e at (f .stands))) (λ e. byte-apart 0 refl (rw e at (f .written))) (few f);
       silent = λ f. by-silent f (f .steps) refl;
-      spilling = λ f. not-first refl (f .later);
+      spilling = λ f. byte-apart 0 refl (f .later);
       growing = λ f. not-same refl (f .same);
       overrun = λ f. not-both (f .within) (f .part);
+    }
+
+output-apart : {a b : Played} → eqb (length (a .output)) (length (b .output)) ≡ false → a ≡ b → ⊥
+output-apart e h = length-apart e (ap (λ (p : Played). p .output) h)
+
+kind-apart : {a b : Played} → eqb (a .clock .kind) (b .clock .kind) ≡ false → a ≡ b → ⊥
+kind-apart e h = not-same e (ap (λ (p : Played). p .clock .kind) h)
+
+pub wrong-repeats : WrongRepeats
+unfolding deviceOf dateOf inRange readingRefusal readingOf leadingMore valueOf judged numberAt then argumentsAt eventAt labelOf decimalFrom decimal printLine outcomeOf printedBy printed lineOf step runAfter linesOf replayOf
+wrong-repeats =
+    record {
+      endless = λ r. true≢false (cc (r .ends (omega arith)));
+      silent = λ r. output-apart refl (r .whole refl);
+      elsewhere = λ r. kind-apart refl (r .whole refl);
     }

@@ -6,4 +6,5 @@ pub mod Filling
 pub mod Repeated
 pub mod Calls
 pub mod WrongRuns
+pub mod WrongReplays
 pub mod Inner

@@ -1,14 +1,15 @@
 -- Answers that the statements about runs shut out, each at a short history: what a call of `fill` may not answer, what repeated
 -- calls may not come to. Each meets all that is stated but for the field that it stands for.
-use mathlib.Core.Bool.{false}
+use mathlib.Core.Bool.{true, false}
 use mathlib.Core.List.{List, [], _∷_, _++_}
 use Prim.Native.Nat.{ℕ, _<_}
 use lib.ListN.{replicate}
-use Rattle.state.specs.Device.{kind256}
+use Rattle.state.specs.Device.{kind256, kind1024}
 use Rattle.state.specs.State.{freshClock}
 use Rattle.playback.specs.Lines.{printLine}
 use Rattle.playback.specs.Run.{startOfRun, endOf}
 use Rattle.playback.specs.Filling.{Fills}
+use Rattle.playback.specs.Repeated.{Replays}
 use Rattle.playback.specs.declared.run.Run.{Run}
 use Rattle.playback.specs.declared.run.Filling.{Filling}
 
@@ -56,3 +57,12 @@ pub record WrongFills : Type 0 where
   pub growing : Fills onePrint startOfRun (blank 30) (itsLine ++ (0 ∷ [])) (answer 0 afterPrint 30) → ⊥
   -- it tells more bytes than the buffer has
   pub overrun : Fills onePrint startOfRun (blank 30) itsLine (answer 0 afterPrint 31) → ⊥
+
+-- What two calls with room for a line each may not come to: one more than the history has bytes.
+pub record WrongRepeats : Type 0 where
+  -- the run has not ended
+  pub endless : Replays onePrint 2 itsLine afterPrint → ⊥
+  -- nothing was written
+  pub silent : Replays onePrint 2 [] atEnd → ⊥
+  -- the clock is none that the history leaves
+  pub elsewhere : Replays onePrint 2 itsLine (record { clock = freshClock kind1024; place = 1; ended = true }) → ⊥
