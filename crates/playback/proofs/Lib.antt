@@ -3,9 +3,9 @@ pub mod Buffers
 pub mod LineLaws
 pub mod RunLaws
 pub mod FillLaws
+pub mod Apart
 pub mod Examples
 pub mod Repeated
 pub mod Calls
-pub mod Apart
 pub mod WrongRuns
 pub mod WrongReplays
