@@ -9,3 +9,4 @@ pub mod Repeated
 pub mod Calls
 pub mod WrongRuns
 pub mod WrongReplays
+pub mod Limits

@@ -47,7 +47,10 @@ none-among : {es : List call.Event} (later : List call.Event) → es ≡ es ++ (
 none-among {es} later e = omega (arith, ap length e, length-append es (single Reading ∷ later))
 
 pub wrong-replays : WrongReplays
-unfolding deviceOf measureOf dateOf inRange rolledOver unitIn ticked tickRefusal tickOf readingRefusal readingOf ranOf ticksOf leadingMore valueOf judged numberAt then ticksAt argumentsAt eventAt labelOf decimalFrom decimal printLine outcomeOf step runAfter afterBy countAmong noneAmong singleTicks singlyFrom asEvents callsFrom callsOfFirst
+unfolding deviceOf measureOf dateOf inRange rolledOver unitIn ticked tickRefusal tickOf readingRefusal
+    readingOf ranOf ticksOf leadingMore valueOf judged numberAt then ticksAt argumentsAt eventAt labelOf
+    decimalFrom decimal printLine outcomeOf step runAfter afterBy countAmong noneAmong singleTicks singlyFrom
+    asEvents callsFrom callsOfFirst
 wrong-replays =
     record {
       idling = λ d. not-most refl (d .demand .third [] (single Tick ∷ []) [] refl refl);

@@ -27,7 +27,9 @@ use Rattle.playback.proofs.Apart.{not-most, not-same, length-apart, byt
 -- a call with 30 bytes makes one step at most of the print's two
 module _ {buf′ : List ℕ} {r : Filling} (f : Fills onePrint startOfRun (blank 30) buf′ r) where
   by-count : (k : ℕ) → f .steps ≡ k → (f .steps ≡ 0) ⊎ (f .steps ≡ 1)
-  unfolding deviceOf dateOf inRange readingRefusal readingOf leadingMore valueOf judged numberAt then argumentsAt eventAt labelOf decimalFrom decimal printLine outcomeOf printedBy printed lineOf step runAfter linesOf
+  unfolding deviceOf dateOf inRange readingRefusal readingOf leadingMore valueOf judged numberAt then
+      argumentsAt eventAt labelOf decimalFrom decimal printLine outcomeOf printedBy printed lineOf step
+      runAfter linesOf
   by-count zero e = inl e
   by-count (suc zero) e = inr e
   by-count (suc (suc k)) e = absurd (not-most refl (f .onward 1 (omega arith) .enough))
@@ -46,12 +48,16 @@ place-apart : {a b : Run} → eqb (a .place) (b .place) ≡ false → a ≡ b �
 place-apart e h = not-same e (ap (λ (r : Run). r .place) h)
 
 by-silent : (f : Fills onePrint startOfRun (blank 60) (blank 60) (answer 0 atEnd 0)) (k : ℕ) → f .steps ≡ k → ⊥
-unfolding deviceOf dateOf inRange readingRefusal readingOf leadingMore valueOf judged numberAt then argumentsAt eventAt labelOf decimalFrom decimal printLine outcomeOf printedBy printed lineOf step runAfter linesOf
+unfolding deviceOf dateOf inRange readingRefusal readingOf leadingMore valueOf judged numberAt then
+    argumentsAt eventAt labelOf decimalFrom decimal printLine outcomeOf printedBy printed lineOf step runAfter
+    linesOf
 by-silent f zero e = ended-apart refl refl (rw e at (f .stands))
 by-silent f (suc k) e = byte-apart 0 refl (rw e at (f .written))
 
 pub wrong-fills : WrongFills
-unfolding deviceOf dateOf inRange readingRefusal readingOf leadingMore valueOf judged numberAt then argumentsAt eventAt labelOf decimalFrom decimal printLine outcomeOf printedBy printed lineOf step runAfter linesOf
+unfolding deviceOf dateOf inRange readingRefusal readingOf leadingMore valueOf judged numberAt then
+    argumentsAt eventAt labelOf decimalFrom decimal printLine outcomeOf printedBy printed lineOf step runAfter
+    linesOf
 wrong-fills =
     record {
       refusing = λ f. not-same refl (f .refusal);
@@ -73,7 +79,9 @@ kind-apart : {a b : Played} → eqb (a .clock .kind) (b .clock .kind) ≡ false 
 kind-apart e h = not-same e (ap (λ (p : Played). p .clock .kind) h)
 
 pub wrong-repeats : WrongRepeats
-unfolding deviceOf dateOf inRange readingRefusal readingOf leadingMore valueOf judged numberAt then argumentsAt eventAt labelOf decimalFrom decimal printLine outcomeOf printedBy printed lineOf step runAfter linesOf replayOf
+unfolding deviceOf dateOf inRange readingRefusal readingOf leadingMore valueOf judged numberAt then
+    argumentsAt eventAt labelOf decimalFrom decimal printLine outcomeOf printedBy printed lineOf step runAfter
+    linesOf replayOf
 wrong-repeats =
     record {
       endless = λ r. true≢false (cc (r .ends (omega arith)));

@@ -8,4 +8,5 @@ pub mod Repeated
 pub mod Calls
 pub mod WrongRuns
 pub mod WrongReplays
+pub mod Limits
 pub mod Inner
