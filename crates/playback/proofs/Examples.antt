@@ -1,7 +1,5 @@
 -- The histories of `Examples` print what is said there, computed; and what prints otherwise is shut out.
-use mathlib.Core.Path.{_≡_, refl}
-use mathlib.Core.List.{List}
-use Prim.Native.Nat.{ℕ}
+use mathlib.Core.Path.{refl}
 use Rattle.calendar.specs.Calendar.{dateOf}
 use Rattle.state.specs.Device.{deviceOf}
 use Rattle.state.specs.State.{inRange}

@@ -111,7 +111,7 @@ module _ (s : List ℕ) (run : Run) (buf : List ℕ) where
         later = cc (p .later);
         same = cc (p .same);
         within = omega (arith, p .same, p .within);
-        part = sym (length-take-le at out (omega (arith, p .same, p .within)));
+        part = cc (length-take-le at out (omega (arith, p .same, p .within)));
       }
 
   -- no step is made
@@ -144,7 +144,7 @@ module _ (s : List ℕ) {run : Run} {buf buf′ : List ℕ} {r : Filling} (l : l
   unfolding runAfter linesOf
   not-none zero e =
       let stays : r .run ≡ run = f .stands ∙ ap (λ (k : ℕ). runAfter k s run) e in
-      let empty : r .length ≡ 0 = f .part ∙ ap length (f .written ∙ ap (λ (k : ℕ). linesOf k s run) e) in
+      let empty : r .length ≡ 0 = omega (arith, f .part, ap length (f .written ∙ ap (λ (k : ℕ). linesOf k s run) e)) in
       absurd (⊎-elim (λ t. let w : _≡_ {A = ℕ} 0 1 = cc in omega arith) (λ h. omega arith) (f .stopped))
   not-none (suc k) e = omega arith
 

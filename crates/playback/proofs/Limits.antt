@@ -1,11 +1,9 @@
 -- The numbers of the statements hold at their edges, and not beyond, computed.
 use mathlib.Core.Path.{_≡_, refl, _∙_, ap}
-use mathlib.Core.Bool.{true, false}
-use mathlib.Core.List.{List, [], _∷_}
-use mathlib.Core.Logic.{inl, inr}
-use Prim.Native.Nat.{ℕ, zero, suc, _<_, _≤_}
+use mathlib.Core.List.{[], _∷_}
+use Prim.Native.Nat.{ℕ, suc, _<_, _≤_}
 use native.Mathlib.Omega.{arith}
-use lib.ListN.{length, replicate, length-replicate}
+use lib.ListN.{length, length-replicate}
 use borrow.Author.Tests.{lt-leb, lt-ltb, le-ltb}
 use Rattle.calendar.specs.Calendar.{dateOf}
 use Rattle.state.specs.Device.{deviceOf}
@@ -15,20 +13,19 @@ use Rattle.number.specs.Reading.{leadingMore, valueOf, judged, numberAt}
 use Rattle.number.specs.Sequence.{then}
 use Rattle.label.specs.Label.{labelOf}
 use Rattle.event.specs.declared.event.Call.the-variants.{Reading}
-use Rattle.event.specs.declared.event.Event as call
 use Rattle.event.specs.declared.event.Event.the-variants.{Call as single}
 use Rattle.history.specs.declared.Event.the-variants.{Call}
 use Rattle.history.specs.Event.{found, argumentsAt, eventAt}
 use Rattle.playback.specs.Lines.{decimalFrom, decimal, logLine, printLine}
 use Rattle.playback.specs.Event.{outcomeOf, printedBy, printed, lineOf}
 use Rattle.playback.specs.Run.{Advanced, longestHistory, startOfRun, endOf, step, runAfter, linesOf}
-use Rattle.playback.specs.Filling.{Fills}
 use Rattle.playback.specs.Repeated.{Repeated, none, more}
 use Rattle.playback.specs.Calls.{callsFrom, callsOfFirst}
-use Rattle.playback.specs.WrongRuns.{onePrint, itsLine, afterPrint, atEnd, blank, answer}
+use Rattle.playback.specs.WrongRuns.{onePrint, itsLine, atEnd, blank}
 use Rattle.playback.specs.Limits.{prints, LineAtItsEdge, HistoryAtItsEdge, EndAtItsEdge, Limits}
 use Rattle.playback.proofs.RunLaws.{step-long, step-found}
 use Rattle.playback.proofs.Repeated.{repeated-calls-replay}
+use Rattle.playback.proofs.OnePrint.{first-call, second-call}
 
 line-at-its-edge : LineAtItsEdge
 unfolding labelOf dateOf decimalFrom decimal printLine
@@ -74,40 +71,6 @@ history-at-its-edge =
       logged = ap (λ (a : Advanced). a .line) (too-long 65536 long (omega arith)) ∙ logged-13;
       ended = ap (λ (a : Advanced). a .run .ended) (too-long 65536 long (omega arith));
       none = none-called 65536 long (omega arith);
-    }
-
--- the first call writes the line, and the second finds the end
-first-call : Fills onePrint startOfRun (blank 30) itsLine (answer 0 afterPrint 30)
-unfolding deviceOf dateOf inRange readingRefusal readingOf leadingMore valueOf judged numberAt then argumentsAt
-    eventAt labelOf decimalFrom decimal printLine outcomeOf printedBy printed lineOf step runAfter linesOf
-first-call =
-    record {
-      refusal = refl;
-      steps = 1;
-      onward = λ k h. let e : 0 ≡ k = omega arith in rw (← e) (record { going = refl; enough = omega arith });
-      stopped = inr (omega arith);
-      stands = refl;
-      written = refl;
-      later = refl;
-      same = refl;
-      within = omega arith;
-      part = refl;
-    }
-
-second-call : Fills onePrint afterPrint (blank 30) (blank 30) (answer 0 atEnd 0)
-unfolding step runAfter linesOf
-second-call =
-    record {
-      refusal = refl;
-      steps = 1;
-      onward = λ k h. let e : 0 ≡ k = omega arith in rw (← e) (record { going = refl; enough = omega arith });
-      stopped = inl refl;
-      stands = refl;
-      written = refl;
-      later = refl;
-      same = refl;
-      within = omega arith;
-      part = refl;
     }
 
 two-calls : Repeated onePrint 2 startOfRun itsLine atEnd

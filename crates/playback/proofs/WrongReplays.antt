@@ -1,10 +1,10 @@
 -- The wrong replays do not meet demand 3 of a history: each fails one field of it, computed.
 use mathlib.Core.Path.{_≡_, refl, ap}
 use mathlib.Core.Bool.{false}
-use mathlib.Core.List.{List, [], _∷_, _++_}
+use mathlib.Core.List.{[], _∷_}
 use native.Mathlib.Omega.{arith}
 use lib.Dec.{eqb}
-use lib.ListN.{length, length-append}
+use lib.ListN.{length}
 use Rattle.calendar.specs.Calendar.{dateOf}
 use Rattle.state.specs.Device.{deviceOf}
 use Rattle.state.specs.State.{inRange}
@@ -18,7 +18,6 @@ use Rattle.number.specs.Reading.{leadingMore, valueOf, judged, numberAt}
 use Rattle.number.specs.Sequence.{then}
 use Rattle.label.specs.Label.{labelOf}
 use Rattle.event.specs.declared.event.Call.the-variants.{Tick, Reading}
-use Rattle.event.specs.declared.event.Event as call
 use Rattle.event.specs.declared.event.Event.the-variants.{Call as single}
 use Rattle.bounds.specs.Calls.{afterBy, countAmong, noneAmong}
 use Rattle.bounds.specs.Singly.{singleTicks, singlyFrom, asEvents}
@@ -27,7 +26,7 @@ use Rattle.history.specs.Event.{ticksAt, argumentsAt, eventAt}
 use Rattle.playback.specs.Lines.{decimalFrom, decimal, printLine}
 use Rattle.playback.specs.Event.{outcomeOf}
 use Rattle.playback.specs.Run.{step, runAfter}
-use Rattle.playback.specs.Calls.{Replayer, replayer, PrintAt, callsFrom, callsOfFirst}
+use Rattle.playback.specs.Calls.{Replayer, PrintAt, callsFrom, callsOfFirst}
 use Rattle.playback.specs.WrongReplays.{printBetween, WrongReplays}
 use Rattle.playback.proofs.Apart.{not-most, not-same, byte-apart}
 
@@ -42,10 +41,6 @@ print-at : (x : Replayer) → x .after 1 printBetween .ended ≡ false → x .af
 unfolding leadingMore valueOf judged numberAt then argumentsAt eventAt
 print-at x going place = record { fits = omega arith; going = going; next = 3; print = rw place }
 
--- no list is a longer one
-none-among : {es : List call.Event} (later : List call.Event) → es ≡ es ++ (single Reading ∷ later) → ⊥
-none-among {es} later e = omega (arith, ap length e, length-append es (single Reading ∷ later))
-
 pub wrong-replays : WrongReplays
 unfolding deviceOf measureOf dateOf inRange rolledOver unitIn ticked tickRefusal tickOf readingRefusal
     readingOf ranOf ticksOf leadingMore valueOf judged numberAt then ticksAt argumentsAt eventAt labelOf
@@ -56,7 +51,7 @@ wrong-replays =
       idling = λ d. not-most refl (d .demand .third [] (single Tick ∷ []) [] refl refl);
       forgetting = λ d. micros-apart refl (d .clock);
       staying = λ d. micros-apart refl (d .clocks 1);
-      unlisted = λ d. none-among _ (d .prints 1 (print-at _ refl refl) .among);
+      unlisted = λ d. omega (arith, ap length (d .prints 1 (print-at _ refl refl) .among));
       printing = λ d. byte-apart 23 refl (d .prints 1 (print-at _ refl refl) .line);
       refusing = λ d. not-same refl (d .prints 1 (print-at _ refl refl) .refusal);
       zeros = λ d. shown-apart refl (d .prints 1 (print-at _ refl refl) .reading);

@@ -1,9 +1,9 @@
 -- What the statements about runs shut out is shut out, computed.
 use mathlib.Core.Path.{_≡_, refl, ap}
 use mathlib.Core.Bool.{true, false, true≢false}
-use mathlib.Core.List.{List, [], _++_}
-use mathlib.Core.Logic.{_⊎_, inl, inr, ⊎-elim}
-use Prim.Native.Nat.{ℕ, zero, suc, _≤_}
+use mathlib.Core.List.{List}
+use mathlib.Core.Logic.{⊎-elim}
+use Prim.Native.Nat.{ℕ, zero, suc}
 use native.Mathlib.Omega.{arith}
 use lib.Dec.{eqb}
 use lib.ListN.{length}
@@ -18,34 +18,23 @@ use Rattle.history.specs.Event.{argumentsAt, eventAt}
 use Rattle.playback.specs.Lines.{decimalFrom, decimal, printLine}
 use Rattle.playback.specs.Event.{outcomeOf, printedBy, printed, lineOf}
 use Rattle.playback.specs.Run.{Played, startOfRun, step, runAfter, linesOf, replayOf}
-use Rattle.playback.specs.Filling.{Fills}
+use Rattle.playback.specs.Filling.{Fills, Alike}
 use Rattle.playback.specs.WrongRuns.{onePrint, atEnd, blank, answer, WrongFills, WrongRepeats}
 use Rattle.playback.specs.declared.run.Run.{Run}
 use Rattle.playback.specs.declared.run.Filling.{Filling}
+use Rattle.playback.proofs.OneFill.{one-fill}
+use Rattle.playback.proofs.OnePrint.{first-call, second-call, one-step}
 use Rattle.playback.proofs.Apart.{not-most, not-same, length-apart, byte-apart}
 
--- a call with 30 bytes makes one step at most of the print's two
-module _ {buf′ : List ℕ} {r : Filling} (f : Fills onePrint startOfRun (blank 30) buf′ r) where
-  by-count : (k : ℕ) → f .steps ≡ k → (f .steps ≡ 0) ⊎ (f .steps ≡ 1)
-  unfolding deviceOf dateOf inRange readingRefusal readingOf leadingMore valueOf judged numberAt then
-      argumentsAt eventAt labelOf decimalFrom decimal printLine outcomeOf printedBy printed lineOf step
-      runAfter linesOf
-  by-count zero e = inl e
-  by-count (suc zero) e = inr e
-  by-count (suc (suc k)) e = absurd (not-most refl (f .onward 1 (omega arith) .enough))
-
-  few : (f .steps ≡ 0) ⊎ (f .steps ≡ 1)
-  few = by-count (f .steps) refl
-
-not-both : 31 ≤ 30 → _≡_ {A = ℕ} 31 30 → ⊥
-not-both h e = omega arith
-
--- the run after so many steps of the print's run is not one that has ended, or stands elsewhere
 ended-apart : {a b : Run} → a .ended ≡ true → b .ended ≡ false → a ≡ b → ⊥
 ended-apart t f e = true≢false (cc)
 
-place-apart : {a b : Run} → eqb (a .place) (b .place) ≡ false → a ≡ b → ⊥
-place-apart e h = not-same e (ap (λ (r : Run). r .place) h)
+place-apart : {a b : Filling} → eqb (a .run .place) (b .run .place) ≡ false → a ≡ b → ⊥
+place-apart e h = not-same e (ap (λ (r : Filling). r .run .place) h)
+
+one : {s : List ℕ} {run : Run} {buf b₁ b₂ : List ℕ} {r₁ r₂ : Filling} (f : Fills s run buf b₁ r₁) (g : Fills s run buf b₂ r₂)
+    → Alike s run buf b₁ b₂ r₁ r₂ f g
+one f g = one-fill _ _ _ _ _ _ _ f g
 
 by-silent : (f : Fills onePrint startOfRun (blank 60) (blank 60) (answer 0 atEnd 0)) (k : ℕ) → f .steps ≡ k → ⊥
 unfolding deviceOf dateOf inRange readingRefusal readingOf leadingMore valueOf judged numberAt then
@@ -62,14 +51,14 @@ wrong-fills =
     record {
       refusing = λ f. not-same refl (f .refusal);
       idle = λ f. ⊎-elim (λ t. true≢false (cc)) (λ h. not-most refl h) (f .stopped);
-      crowded = λ f. ⊎-elim (λ e. ended-apart refl refl (rw e at (f .stands))) (λ e. ended-apart refl refl (rw e at (f .stands))) (few f);
-      late = λ f h. true≢false (f .onward 1 h .going);
-      stuck = λ f. ⊎-elim (λ e. length-apart refl (rw e at (f .written))) (λ e. place-apart refl (rw e at (f .stands))) (few f);
-      unwritten = λ f. ⊎-elim (λ e. place-apart refl (rw e at (f .stands))) (λ e. byte-apart 0 refl (rw e at (f .written))) (few f);
+      crowded = λ f. ended-apart refl refl (ap (λ (r : Filling). r .run) (one f first-call .answer));
+      late = λ f h. omega (arith, one f second-call .steps, one-step);
+      stuck = λ f. place-apart refl (one f first-call .answer);
+      unwritten = λ f. byte-apart 0 refl (one f first-call .left);
       silent = λ f. by-silent f (f .steps) refl;
       spilling = λ f. byte-apart 0 refl (f .later);
       growing = λ f. not-same refl (f .same);
-      overrun = λ f. not-both (f .within) (f .part);
+      overrun = λ f. not-most refl (f .within);
     }
 
 output-apart : {a b : Played} → eqb (length (a .output)) (length (b .output)) ≡ false → a ≡ b → ⊥

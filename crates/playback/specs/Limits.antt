@@ -5,7 +5,6 @@ use mathlib.Core.List.{List, [], _∷_}
 use Prim.Native.Nat.{ℕ}
 use lib.ListN.{length, replicate}
 use Rattle.event.specs.declared.event.Call.the-variants.{Reading}
-use Rattle.event.specs.declared.event.Event as call
 use Rattle.event.specs.declared.event.Event.the-variants.{Call as single}
 use Rattle.playback.specs.Run.{startOfRun, step, runAfter, stepsToEnd}
 use Rattle.playback.specs.Filling.{fillRefusal}

@@ -44,7 +44,7 @@ pub record WrongFills : Type 0 where
   -- it goes on to the end of the bytes without room for one more line
   pub crowded : Fills onePrint startOfRun (blank 30) itsLine (answer 0 atEnd 30) → ⊥
   -- it counts a step after the run has ended
-  pub late : (f : Fills [] startOfRun (blank 30) (blank 30) (answer 0 (endOf startOfRun) 0)) → 1 < f .steps → ⊥
+  pub late : (f : Fills onePrint afterPrint (blank 30) (blank 30) (answer 0 atEnd 0)) → 1 < f .steps → ⊥
   -- it writes the line and does not go past the print, so that the line is written again
   pub stuck : Fills onePrint startOfRun (blank 30) itsLine (answer 0 startOfRun 30) → ⊥
   -- it goes past the print and does not write the line, though it tells its length
