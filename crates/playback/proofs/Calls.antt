@@ -30,7 +30,8 @@ use Rattle.clock.proofs.RunLaws.{ticks-one-more}
 use Rattle.playback.specs.Lines.{printLine}
 use Rattle.playback.specs.Event.{outcomeOf, lineOf}
 use Rattle.playback.specs.Run.{Advanced, longestHistory, startOfRun, endOf, step, runAfter, stepsToEnd, replayOf}
-use Rattle.playback.specs.Calls.{callsOfEvent, callsFrom, callsOfFirst, PrintAt, Tells, replayer, allCalls, Demand3OfEveryHistory}
+use Rattle.playback.specs.Calls.{callsOfEvent, callsFrom, callsOfFirst, replayer, allCalls}
+use Rattle.playback.specs.Calls.{PrintAt, Tells, Demand3OfEveryHistory}
 use Rattle.playback.specs.declared.run.Run.{Run}
 use Rattle.playback.proofs.LineLaws.{reading-sound, line-print}
 use Rattle.playback.proofs.RunLaws.{step-long, step-end, step-found, run-ended, start-ends}
@@ -208,7 +209,8 @@ module _ (s : List ℕ) where
         simp (le-ltb longestHistory (length s) fits)
         (ap (λ (j : ℕ). callsFrom j s 0) counted
         ∙ calls-on s fits (suc more) k (freshClock kind256) 0
-        ∙ ap (λ (es : List call.Event). callsFrom k s 0 ++ es) (some-found s fits (now .place) (Call Reading) (p .next) (omega (arith, inside)) (p .print) more))
+        ∙ ap (λ (es : List call.Event). callsFrom k s 0 ++ es)
+        (some-found s fits (now .place) (Call Reading) (p .next) (omega (arith, inside)) (p .print) more))
 
     accepted : stepOf (clockAfter kind256 (callsOfFirst k s)) (single Reading) .refusal ≡ 0
     accepted = demand3 .fresh kind256 refl (callsOfFirst k s) .first .accepted

@@ -139,12 +139,14 @@ module _ (s : List ℕ) (run : Run) (buf : List ℕ) where
   put-short going h = none-made 14 (simp (going, lt-ltb _ _ h)) (inr h)
 
 -- a call with room for a line, on a run that has not ended
-module _ (s : List ℕ) {run : Run} {buf buf′ : List ℕ} {r : Filling} (l : longestLine ≤ length buf) (going : run .ended ≡ false) (f : Fills s run buf buf′ r) where
+module _ (s : List ℕ) {run : Run} {buf buf′ : List ℕ} {r : Filling} (l : longestLine ≤ length buf)
+    (going : run .ended ≡ false) (f : Fills s run buf buf′ r) where
   not-none : (k : ℕ) → f .steps ≡ k → 0 < k
   unfolding runAfter linesOf
   not-none zero e =
-      let stays : r .run ≡ run = f .stands ∙ ap (λ (k : ℕ). runAfter k s run) e in
-      let empty : r .length ≡ 0 = omega (arith, f .part, ap length (f .written ∙ ap (λ (k : ℕ). linesOf k s run) e)) in
+      let stays : r .run ≡ run = cc (f .stands, ap (λ (k : ℕ). runAfter k s run) e) in
+      let none : length (linesOf (f .steps) s run) ≡ 0 = ap (λ (k : ℕ). length (linesOf k s run)) e in
+      let empty : r .length ≡ 0 = omega (arith, f .part, ap length (f .written)) in
       absurd (⊎-elim (λ t. let w : _≡_ {A = ℕ} 0 1 = cc in omega arith) (λ h. omega arith) (f .stopped))
   not-none (suc k) e = omega arith
 

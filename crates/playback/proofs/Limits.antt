@@ -46,7 +46,9 @@ module _ (n : ℕ) (size : length (prints (suc n)) ≡ suc n) where
 
   called-first : suc n ≤ longestHistory → callsOfFirst 1 (prints (suc n)) ≡ single Reading ∷ []
   unfolding callsFrom callsOfFirst
-  called-first h = simp (le-ltb longestHistory (length (prints (suc n))) (omega arith), lt-leb (length (prints (suc n))) 0 (omega arith), print-first n)
+  called-first h =
+      let l = length (prints (suc n)) in
+      simp (le-ltb longestHistory l (omega arith), lt-leb l 0 (omega arith), print-first n)
 
   too-long : longestHistory < suc n
       → step (prints (suc n)) startOfRun ≡ record { run = endOf startOfRun; line = logLine 13 longestHistory }
@@ -57,7 +59,8 @@ module _ (n : ℕ) (size : length (prints (suc n)) ≡ suc n) where
   none-called h = simp (lt-ltb longestHistory (length (prints (suc n))) (omega arith))
 
 logged-13 : logLine 13 longestHistory
-    ≡ 0x6C ∷ 0x6F ∷ 0x67 ∷ 0x20 ∷ 0x31 ∷ 0x33 ∷ 0x20 ∷ 0x61 ∷ 0x74 ∷ 0x20 ∷ 0x36 ∷ 0x35 ∷ 0x35 ∷ 0x33 ∷ 0x36 ∷ 0x0A ∷ []
+    ≡ 0x6C ∷ 0x6F ∷ 0x67 ∷ 0x20 ∷ 0x31 ∷ 0x33 ∷ 0x20 ∷ 0x61 ∷ 0x74 ∷ 0x20
+    ∷ 0x36 ∷ 0x35 ∷ 0x35 ∷ 0x33 ∷ 0x36 ∷ 0x0A ∷ []
 unfolding decimalFrom decimal logLine
 logged-13 = refl
 
@@ -75,11 +78,13 @@ history-at-its-edge =
 
 two-calls : Repeated onePrint 2 startOfRun itsLine atEnd
 unfolding dateOf labelOf decimalFrom decimal printLine
-two-calls = more {buf = blank 30} (omega arith) first-call (more {buf = blank 30} (omega arith) second-call none)
+two-calls =
+    more {buf = blank 30} (omega arith) first-call
+    (more {buf = blank 30} (omega arith) second-call none)
 
 end-at-its-edge : EndAtItsEdge
-unfolding deviceOf dateOf inRange readingRefusal readingOf leadingMore valueOf judged numberAt then argumentsAt
-    eventAt labelOf decimalFrom decimal printLine outcomeOf printedBy printed lineOf step runAfter linesOf
+unfolding deviceOf dateOf inRange readingRefusal readingOf leadingMore valueOf judged numberAt then
+    argumentsAt eventAt labelOf decimalFrom decimal printLine outcomeOf printedBy printed lineOf step runAfter linesOf
 end-at-its-edge =
     record {
       steps = refl;

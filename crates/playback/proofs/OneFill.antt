@@ -9,23 +9,28 @@ use lib.Dec.{ltb}
 use lib.ListN.{length, take-append-drop}
 use borrow.Author.Tests.{ltb-true, ltb-false}
 use Rattle.playback.specs.Run.{linesOf}
-use Rattle.playback.specs.Filling.{Fills, OneFill}
+use Rattle.playback.specs.Filling.{Fills, Alike, OneFill}
 use Rattle.playback.specs.declared.run.Run.{Run}
 use Rattle.playback.specs.declared.run.Filling.{Filling}
 
 -- a call stops after no fewer steps than another makes
-not-before : {s : List ℕ} {run : Run} {buf b₁ b₂ : List ℕ} {r₁ r₂ : Filling} (f : Fills s run buf b₁ r₁) (g : Fills s run buf b₂ r₂)
-    → f .steps < g .steps → ⊥
+not-before : {s : List ℕ} {run : Run} {buf b₁ b₂ : List ℕ} {r₁ r₂ : Filling}
+    (f : Fills s run buf b₁ r₁) (g : Fills s run buf b₂ r₂) → f .steps < g .steps → ⊥
 not-before {s} {run} {r₁ = r₁} f g h =
     let o = g .onward (f .steps) (omega arith) in
-    let told : r₁ .length ≡ length (linesOf (f .steps) s run) = omega (arith, f .part, ap length (f .written)) in
-    ⊎-elim (λ t. let w : _≡_ {A = ℕ} 0 1 = cc (f .stands, o .going) in omega arith) (λ l. omega (arith, o .enough)) (f .stopped)
+    let n = length (linesOf (f .steps) s run) in
+    let told : r₁ .length ≡ n = omega (arith, f .part, ap length (f .written)) in
+    ⊎-elim (λ t. let w : _≡_ {A = ℕ} 0 1 = cc (f .stands, o .going) in omega arith)
+    (λ l. omega (arith, o .enough)) (f .stopped)
 
-module _ {s : List ℕ} {run : Run} {buf b₁ b₂ : List ℕ} {r₁ r₂ : Filling} (f : Fills s run buf b₁ r₁) (g : Fills s run buf b₂ r₂) where
-  by-order : (b c : Bool) → ltb (f .steps) (g .steps) ≡ b → ltb (g .steps) (f .steps) ≡ c → f .steps ≡ g .steps
+module _ {s : List ℕ} {run : Run} {buf b₁ b₂ : List ℕ} {r₁ r₂ : Filling}
+    (f : Fills s run buf b₁ r₁) (g : Fills s run buf b₂ r₂) where
+  by-order : (b c : Bool) → ltb (f .steps) (g .steps) ≡ b → ltb (g .steps) (f .steps) ≡ c
+      → f .steps ≡ g .steps
   by-order true c t u = absurd (not-before f g (ltb-true _ _ t))
   by-order false true t u = absurd (not-before g f (ltb-true _ _ u))
-  by-order false false t u = omega (arith, ltb-false (f .steps) (g .steps) t, ltb-false (g .steps) (f .steps) u)
+  by-order false false t u =
+      omega (arith, ltb-false (f .steps) (g .steps) t, ltb-false (g .steps) (f .steps) u)
 
   same-steps : f .steps ≡ g .steps
   same-steps = by-order (ltb (f .steps) (g .steps)) (ltb (g .steps) (f .steps)) refl refl
@@ -44,12 +49,24 @@ same-filling a b x y z =
     let e : filling (a .refusal) (a .run) (a .length) ≡ filling (b .refusal) (b .run) (b .length) = cc in
     e
 
-pub one-fill : OneFill
-one-fill s run buf b₁ b₂ r₁ r₂ f g =
+same-fill : {s : List ℕ} {run : Run} {buf b₁ b₂ : List ℕ} {r₁ r₂ : Filling}
+    (f : Fills s run buf b₁ r₁) (g : Fills s run buf b₂ r₂) → Alike f g
+same-fill {b₁ = b₁} {b₂ = b₂} {r₁ = r₁} {r₂ = r₂} f g =
     let k = same-steps f g in
     let n = same-length f g in
     record {
       steps = cc k;
       answer = cc (same-filling r₁ r₂ (cc (f .refusal, g .refusal)) (cc (f .stands, g .stands)) n);
-      left = cc (take-append-drop (r₁ .length) b₁, take-append-drop (r₂ .length) b₂, f .written, g .written, f .later, g .later);
+      left =
+          cc (
+            take-append-drop (r₁ .length) b₁,
+            take-append-drop (r₂ .length) b₂,
+            f .written,
+            g .written,
+            f .later,
+            g .later,
+          );
     }
+
+pub one-fill : OneFill
+one-fill = record { alike = same-fill }

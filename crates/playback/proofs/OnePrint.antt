@@ -18,8 +18,8 @@ use Rattle.playback.specs.WrongRuns.{onePrint, itsLine, afterPrint, atEn
 
 -- the first call writes the line, and the second finds the end
 pub first-call : Fills onePrint startOfRun (blank 30) itsLine (answer 0 afterPrint 30)
-unfolding deviceOf dateOf inRange readingRefusal readingOf leadingMore valueOf judged numberAt then argumentsAt
-    eventAt labelOf decimalFrom decimal printLine outcomeOf printedBy printed lineOf step runAfter linesOf
+unfolding deviceOf dateOf inRange readingRefusal readingOf leadingMore valueOf judged numberAt then
+    argumentsAt eventAt labelOf decimalFrom decimal printLine outcomeOf printedBy printed lineOf step runAfter linesOf
 first-call =
     record {
       refusal = refl;

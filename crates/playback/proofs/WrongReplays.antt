@@ -37,7 +37,8 @@ shown-apart : {a b : shows.Reading} → eqb (a .micros .0) (b .micros .0) ≡ fa
 shown-apart e h = not-same e (ap (λ (c : shows.Reading). c .micros .0) h)
 
 -- the event between the ticks is a print, of whatever stands there after the first
-print-at : (x : Replayer) → x .after 1 printBetween .ended ≡ false → x .after 1 printBetween .place ≡ 2 → PrintAt x printBetween 1
+print-at : (x : Replayer) → x .after 1 printBetween .ended ≡ false → x .after 1 printBetween .place ≡ 2
+    → PrintAt x printBetween 1
 unfolding leadingMore valueOf judged numberAt then argumentsAt eventAt
 print-at x going place = record { fits = omega arith; going = going; next = 3; print = rw place }
 

@@ -18,7 +18,7 @@ use Rattle.history.specs.Event.{argumentsAt, eventAt}
 use Rattle.playback.specs.Lines.{decimalFrom, decimal, printLine}
 use Rattle.playback.specs.Event.{outcomeOf, printedBy, printed, lineOf}
 use Rattle.playback.specs.Run.{Played, startOfRun, step, runAfter, linesOf, replayOf}
-use Rattle.playback.specs.Filling.{Fills, Alike}
+use Rattle.playback.specs.Filling.{Fills}
 use Rattle.playback.specs.WrongRuns.{onePrint, atEnd, blank, answer, WrongFills, WrongRepeats}
 use Rattle.playback.specs.declared.run.Run.{Run}
 use Rattle.playback.specs.declared.run.Filling.{Filling}
@@ -32,11 +32,8 @@ ended-apart t f e = true≢false (cc)
 place-apart : {a b : Filling} → eqb (a .run .place) (b .run .place) ≡ false → a ≡ b → ⊥
 place-apart e h = not-same e (ap (λ (r : Filling). r .run .place) h)
 
-one : {s : List ℕ} {run : Run} {buf b₁ b₂ : List ℕ} {r₁ r₂ : Filling} (f : Fills s run buf b₁ r₁) (g : Fills s run buf b₂ r₂)
-    → Alike s run buf b₁ b₂ r₁ r₂ f g
-one f g = one-fill _ _ _ _ _ _ _ f g
-
-by-silent : (f : Fills onePrint startOfRun (blank 60) (blank 60) (answer 0 atEnd 0)) (k : ℕ) → f .steps ≡ k → ⊥
+by-silent : (f : Fills onePrint startOfRun (blank 60) (blank 60) (answer 0 atEnd 0)) (k : ℕ)
+    → f .steps ≡ k → ⊥
 unfolding deviceOf dateOf inRange readingRefusal readingOf leadingMore valueOf judged numberAt then
     argumentsAt eventAt labelOf decimalFrom decimal printLine outcomeOf printedBy printed lineOf step runAfter
     linesOf
@@ -51,10 +48,10 @@ wrong-fills =
     record {
       refusing = λ f. not-same refl (f .refusal);
       idle = λ f. ⊎-elim (λ t. true≢false (cc)) (λ h. not-most refl h) (f .stopped);
-      crowded = λ f. ended-apart refl refl (ap (λ (r : Filling). r .run) (one f first-call .answer));
-      late = λ f h. omega (arith, one f second-call .steps, one-step);
-      stuck = λ f. place-apart refl (one f first-call .answer);
-      unwritten = λ f. byte-apart 0 refl (one f first-call .left);
+      crowded = λ f. ended-apart refl refl (ap (λ (r : Filling). r .run) (one-fill .alike f first-call .answer));
+      late = λ f h. omega (arith, one-fill .alike f second-call .steps, one-step);
+      stuck = λ f. place-apart refl (one-fill .alike f first-call .answer);
+      unwritten = λ f. byte-apart 0 refl (one-fill .alike f first-call .left);
       silent = λ f. by-silent f (f .steps) refl;
       spilling = λ f. byte-apart 0 refl (f .later);
       growing = λ f. not-same refl (f .same);

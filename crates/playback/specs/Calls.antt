@@ -41,8 +41,9 @@ callsFrom (suc k) s at = cond (leb (length s) at) [] (callsAs (callsFrom k s) (e
 unfoldable pub callsOfFirst : ℕ → List ℕ → List call.Event
 callsOfFirst k s = cond (ltb longestHistory (length s)) [] (callsFrom k s 0)
 
--- What replays histories, so that what is owed below can be stated of whatever does: the calls that it makes for the first k events of
--- s, where its run stands after k steps, the line of the step after them, and what it comes to.
+-- What replays histories, so that what is owed below can be stated of whatever does: the calls that it makes for
+-- the first k events of s, where its run stands after k steps, the line of the step after them, and what it
+-- comes to.
 pub record Replayer : Type 0 where
   pub calls : ℕ → List ℕ → List call.Event
   pub after : ℕ → List ℕ → Run

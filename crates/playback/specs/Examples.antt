@@ -1,5 +1,5 @@
--- Histories and all that they print, byte by byte. They are stated of whatever prints, so that a replay that prints otherwise is shut
--- out.
+-- Histories and all that they print, byte by byte. They are stated of whatever prints, so that a replay that
+-- prints otherwise is shut out.
 use mathlib.Core.Path.{_≡_}
 use mathlib.Core.Bool.{cond}
 use mathlib.Core.List.{List, [], _∷_}

@@ -45,13 +45,12 @@ pub record Fills (s : List ℕ) (run : Run) (buf buf′ : List ℕ) (r : Filling
   pub part : r .length ≡ length (take (r .length) buf′)
 
 -- There is no choice: of two answers to one call, with the buffers that they leave, the one is the other.
-pub record Alike (s : List ℕ) (run : Run) (buf b₁ b₂ : List ℕ) (r₁ r₂ : Filling) (f : Fills s run buf b₁ r₁) (g : Fills s run buf b₂ r₂)
-    : Type 0 where
+pub record Alike {s : List ℕ} {run : Run} {buf b₁ b₂ : List ℕ} {r₁ r₂ : Filling}
+    (f : Fills s run buf b₁ r₁) (g : Fills s run buf b₂ r₂) : Type 0 where
   pub steps : f .steps ≡ g .steps
   pub answer : r₁ ≡ r₂
   pub left : b₁ ≡ b₂
 
-abbrev pub OneFill : Type 0
-OneFill =
-    (s : List ℕ) (run : Run) (buf b₁ b₂ : List ℕ) (r₁ r₂ : Filling) (f : Fills s run buf b₁ r₁) (g : Fills s run buf b₂ r₂)
-    → Alike s run buf b₁ b₂ r₁ r₂ f g
+pub record OneFill : Type 0 where
+  pub alike : {s : List ℕ} {run : Run} {buf b₁ b₂ : List ℕ} {r₁ r₂ : Filling}
+      (f : Fills s run buf b₁ r₁) (g : Fills s run buf b₂ r₂) → Alike f g

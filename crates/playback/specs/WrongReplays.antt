@@ -1,5 +1,5 @@
--- Replays that demand 3 of a history shuts out, each at a short history: it meets all that is stated but for the field that it stands
--- for.
+-- Replays that demand 3 of a history shuts out, each at a short history: it meets all that is stated but for the
+-- field that it stands for.
 use mathlib.Core.Bool.{cond}
 use mathlib.Core.List.{List, [], _∷_}
 use Prim.Native.Nat.{ℕ, min}
@@ -94,7 +94,8 @@ telling refusal reading a =
       reading = reading;
     }
 
--- A reading at 3,906 us, where a fresh clock stands after a tick, is answered otherwise; all else by the rules.
+-- A reading at 3,906 us, where a fresh clock stands after a tick, is answered otherwise; all else is by the
+-- rules.
 abbrev pub misreads : (Stepped → Stepped) → Answers
 misreads otherwise c (single Reading) =
     let a = stepOf c (single Reading) in cond (eqb (c .micros .0) 3906) (otherwise a) a

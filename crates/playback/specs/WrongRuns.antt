@@ -1,5 +1,5 @@
--- Answers that the statements about runs shut out, each at a short history: what a call of `fill` may not answer, what repeated
--- calls may not come to. Each meets all that is stated but for the field that it stands for.
+-- Answers that the statements about runs shut out, each at a short history: what a call of `fill` may not answer,
+-- what repeated calls may not come to. Each meets all that is stated but for the field that it stands for.
 use mathlib.Core.Bool.{true, false}
 use mathlib.Core.List.{List, [], _∷_, _++_}
 use Prim.Native.Nat.{ℕ, _<_}
@@ -65,4 +65,5 @@ pub record WrongRepeats : Type 0 where
   -- nothing was written
   pub silent : Replays onePrint 2 [] atEnd → ⊥
   -- the clock is none that the history leaves
-  pub elsewhere : Replays onePrint 2 itsLine (record { clock = freshClock kind1024; place = 1; ended = true }) → ⊥
+  pub elsewhere : Replays onePrint 2 itsLine (record { clock = freshClock kind1024; place = 1; ended = true })
+      → ⊥
