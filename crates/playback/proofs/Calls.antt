@@ -13,6 +13,7 @@ use Rattle.state.specs.Device.{kind256}
 use Rattle.state.specs.State.{inRange, freshClock}
 use Rattle.state.specs.declared.state.Clock.{Clock}
 use Rattle.event.specs.Event.{stepOf}
+use Rattle.event.proofs.Kept.{tick-same}
 use Rattle.event.specs.declared.event.Call.the-variants.{Reading}
 use Rattle.event.specs.declared.event.Event as call
 use Rattle.event.specs.declared.event.Event.the-variants.{Call as single}
@@ -29,7 +30,8 @@ use Rattle.clock.proofs.RunLaws.{ticks-one-more}
 use Rattle.playback.specs.Lines.{printLine}
 use Rattle.playback.specs.Event.{outcomeOf, lineOf}
 use Rattle.playback.specs.Run.{Advanced, longestHistory, startOfRun, endOf, step, runAfter, stepsToEnd, replayOf}
-use Rattle.playback.specs.Calls.{callsOfEvent, callsFrom, callsOfFirst, callsOf, PrintAt, Tells, Demand3OfEveryHistory}
+use Rattle.playback.specs.Calls.{callsOfEvent, callsFrom, callsOfFirst, replayer, allCalls}
+use Rattle.playback.specs.Calls.{PrintAt, Tells, Demand3OfEveryHistory}
 use Rattle.playback.specs.declared.run.Run.{Run}
 use Rattle.playback.proofs.LineLaws.{reading-sound, line-print}
 use Rattle.playback.proofs.RunLaws.{step-long, step-end, step-found, run-ended, start-ends}
@@ -43,20 +45,16 @@ abbrev ticks : ℕ → List call.Event
 ticks n = asEvents (singleTicks n)
 
 -- a tick that is refused hands back the clock, and so do those after it
-refused-stays : (c : Clock) → eqb (tickOf c .refusal) 0 ≡ false → tickOf c .clock ≡ c
-unfolding tickOf
-refused-stays c t = simp t
-
 refused-ticks : (n : ℕ) (c : Clock) → eqb (tickOf c .refusal) 0 ≡ false → after c (ticks n) ≡ c
 unfolding afterBy singleTicks asEvents
 refused-ticks zero c t = refl
-refused-ticks (suc n) c t = ap (λ (d : Clock). after d (ticks n)) (refused-stays c t) ∙ refused-ticks n c t
+refused-ticks (suc n) c t = ap (λ (d : Clock). after d (ticks n)) (tick-same c t) ∙ refused-ticks n c t
 
 by-tick : (n : ℕ) (c : Clock) → after (tickOf c .clock) (ticks n) ≡ ticksOf n (tickOf c .clock) .clock → (b : Bool) → eqb (tickOf c .refusal) 0 ≡ b
     → after c (ticks (suc n)) ≡ ticksOf (suc n) c .clock
 unfolding afterBy singleTicks asEvents
 by-tick n c h true t = rw (ticks-one-more c n) (simp t h)
-by-tick n c h false t = rw (ticks-one-more c n) (simp t (refused-ticks (suc n) c t ∙ sym (refused-stays c t)))
+by-tick n c h false t = rw (ticks-one-more c n) (simp t (refused-ticks (suc n) c t ∙ sym (tick-same c t)))
 
 no-tick : (c : Clock) (b : Bool) → inRange c ≡ b → c ≡ ticksOf 0 c .clock
 unfolding ticksOf ranOf
@@ -184,9 +182,12 @@ module _ (s : List ℕ) where
   clocks : (k : ℕ) → runAfter k s startOfRun .clock ≡ clockAfter kind256 (callsOfFirst k s)
   clocks k = by-length k (ltb longestHistory (length s)) refl
 
-  module _ (k : ℕ) (p : PrintAt s k) where
+  module _ (k : ℕ) (p : PrintAt replayer s k) where
     abbrev now : Run
     now = runAfter k s startOfRun
+
+    fits : length s ≤ longestHistory
+    fits = omega arith
 
     inside : Past s (now .place) (p .next)
     inside = event-past s (now .place) (p .print)
@@ -202,30 +203,40 @@ module _ (s : List ℕ) where
     unfolding more
     counted = omega (arith, before-end (leb (stepsToEnd s) k) refl)
 
-    among : callsOf s ≡ callsOfFirst k s ++ (single Reading ∷ callsFrom more s (p .next))
+    among : allCalls replayer s ≡ callsOfFirst k s ++ (single Reading ∷ callsFrom more s (p .next))
     unfolding callsOfFirst CallsOn
     among =
-        simp (le-ltb longestHistory (length s) (p .fits))
+        simp (le-ltb longestHistory (length s) fits)
         (ap (λ (j : ℕ). callsFrom j s 0) counted
-        ∙ calls-on s (p .fits) (suc more) k (freshClock kind256) 0
-        ∙ ap (λ (es : List call.Event). callsFrom k s 0 ++ es) (some-found s (p .fits) (now .place) (Call Reading) (p .next) (omega (arith, inside)) (p .print) more))
+        ∙ calls-on s fits (suc more) k (freshClock kind256) 0
+        ∙ ap (λ (es : List call.Event). callsFrom k s 0 ++ es)
+        (some-found s fits (now .place) (Call Reading) (p .next) (omega (arith, inside)) (p .print) more))
 
     accepted : stepOf (clockAfter kind256 (callsOfFirst k s)) (single Reading) .refusal ≡ 0
     accepted = demand3 .fresh kind256 refl (callsOfFirst k s) .first .accepted
 
-    tells : Tells s k
+    shown-line : step s now .line ≡ printLine (clockAfter kind256 (callsOfFirst k s))
+    shown-line =
+        ap (λ (a : Advanced). a .line) (step-found s now (p .going) fits (omega (arith, inside)) (p .print))
+        ∙ ap (λ (c : Clock). lineOf c (Call Reading)) (clocks k)
+        ∙ print-shown (clockAfter kind256 (callsOfFirst k s)) accepted
+
+    tells : Tells stepOf replayer s k
     tells =
         record {
           later = callsFrom more s (p .next);
-          among = among;
-          refusal = accepted;
-          reading = reading-shown (clockAfter kind256 (callsOfFirst k s)) accepted;
-          line =
-              ap (λ (a : Advanced). a .line) (step-found s now (p .going) (p .fits) (omega (arith, inside)) (p .print))
-              ∙ ap (λ (c : Clock). lineOf c (Call Reading)) (clocks k)
-              ∙ print-shown (clockAfter kind256 (callsOfFirst k s)) accepted;
+          among = cc among;
+          refusal = cc accepted;
+          reading = cc (reading-shown (clockAfter kind256 (callsOfFirst k s)) accepted);
+          line = cc shown-line;
         }
 
 pub demand3-of-history : Demand3OfEveryHistory
 unfolding replayOf
-demand3-of-history s = record { demand = demand3 .fresh kind256 refl (callsOf s); clock = clocks s (stepsToEnd s); clocks = clocks s; prints = tells s }
+demand3-of-history s =
+    record {
+      demand = demand3 .fresh kind256 refl _;
+      clock = cc (clocks s (stepsToEnd s));
+      clocks = λ k. cc (clocks s k);
+      prints = tells s;
+    }

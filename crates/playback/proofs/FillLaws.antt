@@ -63,7 +63,7 @@ module _ (s : List ℕ) (run : Run) (buf : List ℕ) where
     goes : GoesOn s run (length buf) (p .steps)
     goes =
         record {
-          going = ap (λ (r : Run). r .ended) (sym (p .stands)) ∙ going;
+          going = cc (p .stands);
           enough = omega (arith, ap length (p .written), length-take-le at out (omega (arith, p .same, p .within)));
         }
 
@@ -94,26 +94,24 @@ module _ (s : List ℕ) (run : Run) (buf : List ℕ) where
     less-left = rw (x .stands) (left-less s now going)
 
   -- the loop ended: the run did, or there is no room for one more line
-  by-halt : (now : Run) (at : ℕ) → longestLine ≤ length buf → (now .ended ≡ true) ⊎ (leb at (length buf - longestLine) ≡ false)
-      → (now .ended ≡ true) ⊎ (length buf < at + longestLine)
-  by-halt now at l (inl t) = inl t
-  by-halt now at l (inr t) = inr (omega (arith, leb-false at (length buf - longestLine) t))
-
   pub put-all : {out : List ℕ} {now : Run} {at : ℕ} → run .ended ≡ false → longestLine ≤ length buf → Put out now at
-      → (not (now .ended) && leb at (length buf - longestLine)) ≡ false → Fills s run buf out (record { refusal = 0; run = now; length = at })
+      → (not (now .ended) && leb at (length buf - longestLine)) ≡ false
+      → Fills s run buf out (record { refusal = 0; run = now; length = at })
   put-all {out} {now} {at} going l p t =
-      let w : at ≤ length out = omega (arith, p .same, p .within) in
+      let none : 0 ≡ fillRefusal run (length buf) = simp (going, le-ltb _ _ l) in
       record {
-        refusal = simp (going, le-ltb _ _ l);
+        refusal = cc none;
         steps = p .steps;
-        onward = p .onward;
-        stopped = by-halt now at l (halts (now .ended) _ t);
-        stands = p .stands;
-        written = p .written;
-        later = p .later;
-        same = p .same;
-        within = w;
-        part = sym (length-take-le at out w);
+        onward = λ k h. p .onward k (omega arith);
+        stopped =
+            ⊎-elim (λ e. inl e) (λ f. inr (omega (arith, leb-false at (length buf - longestLine) f)))
+            (halts (now .ended) _ t);
+        stands = cc (p .stands);
+        written = cc (p .written);
+        later = cc (p .later);
+        same = cc (p .same);
+        within = omega (arith, p .same, p .within);
+        part = cc (length-take-le at out (omega (arith, p .same, p .within)));
       }
 
   -- no step is made
@@ -122,10 +120,10 @@ module _ (s : List ℕ) (run : Run) (buf : List ℕ) where
   unfolding runAfter linesOf
   none-made n e h =
       record {
-        refusal = e;
+        refusal = cc e;
         steps = 0;
         onward = λ k h. absurd (omega arith);
-        stopped = h;
+        stopped = ⊎-elim (λ t. inl t) (λ l. inr (omega arith)) h;
         stands = refl;
         written = refl;
         later = refl;
@@ -141,12 +139,14 @@ module _ (s : List ℕ) (run : Run) (buf : List ℕ) where
   put-short going h = none-made 14 (simp (going, lt-ltb _ _ h)) (inr h)
 
 -- a call with room for a line, on a run that has not ended
-module _ (s : List ℕ) {run : Run} {buf buf′ : List ℕ} {r : Filling} (l : longestLine ≤ length buf) (going : run .ended ≡ false) (f : Fills s run buf buf′ r) where
+module _ (s : List ℕ) {run : Run} {buf buf′ : List ℕ} {r : Filling} (l : longestLine ≤ length buf)
+    (going : run .ended ≡ false) (f : Fills s run buf buf′ r) where
   not-none : (k : ℕ) → f .steps ≡ k → 0 < k
   unfolding runAfter linesOf
   not-none zero e =
-      let stays : r .run ≡ run = f .stands ∙ ap (λ (k : ℕ). runAfter k s run) e in
-      let empty : r .length ≡ 0 = f .part ∙ ap length (f .written ∙ ap (λ (k : ℕ). linesOf k s run) e) in
+      let stays : r .run ≡ run = cc (f .stands, ap (λ (k : ℕ). runAfter k s run) e) in
+      let none : length (linesOf (f .steps) s run) ≡ 0 = ap (λ (k : ℕ). length (linesOf k s run)) e in
+      let empty : r .length ≡ 0 = omega (arith, f .part, ap length (f .written)) in
       absurd (⊎-elim (λ t. let w : _≡_ {A = ℕ} 0 1 = cc in omega arith) (λ h. omega arith) (f .stopped))
   not-none (suc k) e = omega arith
 

@@ -3,6 +3,12 @@ pub mod Buffers
 pub mod LineLaws
 pub mod RunLaws
 pub mod FillLaws
+pub mod OneFill
+pub mod Apart
 pub mod Examples
 pub mod Repeated
 pub mod Calls
+pub mod OnePrint
+pub mod WrongRuns
+pub mod WrongReplays
+pub mod Limits

@@ -41,7 +41,7 @@ module _ (s : List ℕ) where
   made : {n : ℕ} {run end : Run} {ws : List ℕ} → Repeated s n run ws end → Made n run ws end
   unfolding runAfter linesOf
   made none = record { steps = 0; stands = refl; written = refl; enough = λ g. omega arith }
-  made (more l f rest) = joined l f (made rest)
+  made (more l f rest) = joined (omega arith) f (made rest)
 
 -- what calls from the start come to
 module _ (s : List ℕ) {n : ℕ} {ws : List ℕ} {end : Run} (m : Made s n startOfRun ws end) where
@@ -58,4 +58,4 @@ module _ (s : List ℕ) {n : ℕ} {ws : List ℕ} {end : Run} (m : Made s n star
 pub repeated-calls-replay : RepeatedCallsReplay
 repeated-calls-replay s n ws end c =
     let m = made s c in
-    record { ends = ended-by s m (end .ended) refl; whole = whole s m }
+    record { ends = λ h. ended-by s m (end .ended) refl (omega arith); whole = λ t. cc (whole s m t) }

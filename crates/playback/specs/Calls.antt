@@ -6,19 +6,21 @@ use Prim.Native.Nat.{ℕ, zero, suc, _≤_}
 use lib.Dec.{leb, ltb}
 use lib.ListN.{length}
 use Rattle.state.specs.Device.{kind256}
+use Rattle.state.specs.declared.state.Clock.{Clock}
 use Rattle.clock.specs.Reading.{shown}
 use Rattle.event.specs.Event.{stepOf}
 use Rattle.event.specs.declared.event.Call.the-variants.{Reading}
 use Rattle.event.specs.declared.event.Event as call
 use Rattle.event.specs.declared.event.Event.the-variants.{Call as single}
-use Rattle.bounds.specs.Calls.{clockAfter}
+use Rattle.bounds.specs.Calls.{Answers, clockBy}
 use Rattle.bounds.specs.Singly.{singleTicks, asEvents}
 use Rattle.bounds.specs.Demand.{Demand3}
 use Rattle.history.specs.Event.{Found, found, refused, eventAt}
 use Rattle.history.specs.declared.Event.{Event}
 use Rattle.history.specs.declared.Event.the-variants.{Ticks, Call}
 use Rattle.playback.specs.Lines.{printLine}
-use Rattle.playback.specs.Run.{longestHistory, startOfRun, step, runAfter, stepsToEnd, replayOf}
+use Rattle.playback.specs.Run.{longestHistory, Played, startOfRun, step, runAfter, stepsToEnd, replayOf}
+use Rattle.playback.specs.declared.run.Run.{Run}
 
 -- The calls of an event: "`0 n` up to n single ticks". Where one is refused, those after it are refused too and change nothing.
 abbrev pub callsOfEvent : Event → List call.Event
@@ -39,34 +41,57 @@ callsFrom (suc k) s at = cond (leb (length s) at) [] (callsAs (callsFrom k s) (e
 unfoldable pub callsOfFirst : ℕ → List ℕ → List call.Event
 callsOfFirst k s = cond (ltb longestHistory (length s)) [] (callsFrom k s 0)
 
--- the calls of a history
-abbrev pub callsOf : List ℕ → List call.Event
-callsOf s = callsOfFirst (stepsToEnd s) s
+-- What replays histories, so that what is owed below can be stated of whatever does: the calls that it makes for
+-- the first k events of s, where its run stands after k steps, the line of the step after them, and what it
+-- comes to.
+pub record Replayer : Type 0 where
+  pub calls : ℕ → List ℕ → List call.Event
+  pub after : ℕ → List ℕ → Run
+  pub line : ℕ → List ℕ → List ℕ
+  pub played : List ℕ → Played
+
+-- The replay by the rules.
+abbrev pub replayer : Replayer
+replayer =
+    record {
+      calls = callsOfFirst;
+      after = λ k s. runAfter k s startOfRun;
+      line = λ k s. step s (runAfter k s startOfRun) .line;
+      played = replayOf;
+    }
+
+-- the calls of a whole history
+abbrev pub allCalls : Replayer → List ℕ → List call.Event
+allCalls x s = x .calls (stepsToEnd s) s
+
+-- the clock after the calls of the first k events, by what answers them
+abbrev pub clockAt : Answers → Replayer → ℕ → List ℕ → Clock
+clockAt answers x k s = clockBy answers kind256 (x .calls k s)
 
 -- the step after k others of a replay of s is a print
-pub record PrintAt (s : List ℕ) (k : ℕ) : Type 0 where
+pub record PrintAt (x : Replayer) (s : List ℕ) (k : ℕ) : Type 0 where
   pub fits : length s ≤ longestHistory
-  pub going : runAfter k s startOfRun .ended ≡ false
+  pub going : x .after k s .ended ≡ false
   pub next : ℕ
-  pub print : eventAt s (runAfter k s startOfRun .place) ≡ found (Call Reading) next
+  pub print : eventAt s (x .after k s .place) ≡ found (Call Reading) next
 
 -- Its line shows what the reading tells that stands for it in the list of the history's calls.
-pub record Tells (s : List ℕ) (k : ℕ) : Type 0 where
+pub record Tells (answers : Answers) (x : Replayer) (s : List ℕ) (k : ℕ) : Type 0 where
   -- the calls before the reading, and those after it
   pub later : List call.Event
-  pub among : callsOf s ≡ callsOfFirst k s ++ (single Reading ∷ later)
+  pub among : allCalls x s ≡ x .calls k s ++ (single Reading ∷ later)
   -- the reading is accepted, and tells what the clock shows that the line prints
-  pub refusal : stepOf (clockAfter kind256 (callsOfFirst k s)) (single Reading) .refusal ≡ 0
-  pub reading : stepOf (clockAfter kind256 (callsOfFirst k s)) (single Reading) .reading ≡ shown (clockAfter kind256 (callsOfFirst k s))
-  pub line : step s (runAfter k s startOfRun) .line ≡ printLine (clockAfter kind256 (callsOfFirst k s))
+  pub refusal : answers (clockAt answers x k s) (single Reading) .refusal ≡ 0
+  pub reading : answers (clockAt answers x k s) (single Reading) .reading ≡ shown (clockAt answers x k s)
+  pub line : x .line k s ≡ printLine (clockAt answers x k s)
 
--- Demand 3 of a history that is replayed, on a clock of kind 0.
-pub record Demand3OfHistory (s : List ℕ) : Type 0 where
-  pub demand : Demand3 stepOf kind256 (callsOf s)
+-- Demand 3 of a history that is replayed, on a clock of kind 0, by what answers the calls.
+pub record Demand3OfHistory (answers : Answers) (x : Replayer) (s : List ℕ) : Type 0 where
+  pub demand : Demand3 answers kind256 (allCalls x s)
   -- the clock that the replay leaves is the clock after the calls, and so is the clock at each step
-  pub clock : replayOf s .clock ≡ clockAfter kind256 (callsOf s)
-  pub clocks : (k : ℕ) → runAfter k s startOfRun .clock ≡ clockAfter kind256 (callsOfFirst k s)
-  pub prints : (k : ℕ) → PrintAt s k → Tells s k
+  pub clock : x .played s .clock ≡ clockBy answers kind256 (allCalls x s)
+  pub clocks : (k : ℕ) → x .after k s .clock ≡ clockAt answers x k s
+  pub prints : (k : ℕ) → PrintAt x s k → Tells answers x s k
 
 abbrev pub Demand3OfEveryHistory : Type 0
-Demand3OfEveryHistory = (s : List ℕ) → Demand3OfHistory s
+Demand3OfEveryHistory = (s : List ℕ) → Demand3OfHistory stepOf replayer s

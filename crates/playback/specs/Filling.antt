@@ -43,3 +43,14 @@ pub record Fills (s : List ℕ) (run : Run) (buf buf′ : List ℕ) (r : Filling
   -- what a caller needs for `&buf[..r.length]`
   pub within : r .length ≤ length buf′
   pub part : r .length ≡ length (take (r .length) buf′)
+
+-- There is no choice: of two answers to one call, with the buffers that they leave, the one is the other.
+pub record Alike {s : List ℕ} {run : Run} {buf b₁ b₂ : List ℕ} {r₁ r₂ : Filling}
+    (f : Fills s run buf b₁ r₁) (g : Fills s run buf b₂ r₂) : Type 0 where
+  pub steps : f .steps ≡ g .steps
+  pub answer : r₁ ≡ r₂
+  pub left : b₁ ≡ b₂
+
+pub record OneFill : Type 0 where
+  pub alike : {s : List ℕ} {run : Run} {buf b₁ b₂ : List ℕ} {r₁ r₂ : Filling}
+      (f : Fills s run buf b₁ r₁) (g : Fills s run buf b₂ r₂) → Alike f g

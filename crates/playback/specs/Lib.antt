@@ -3,6 +3,10 @@ pub mod Lines
 pub mod Event
 pub mod Run
 pub mod Filling
+pub mod Examples
 pub mod Repeated
 pub mod Calls
+pub mod WrongRuns
+pub mod WrongReplays
+pub mod Limits
 pub mod Inner

@@ -1,0 +1,59 @@
+-- The wrong replays do not meet demand 3 of a history: each fails one field of it, computed.
+use mathlib.Core.Path.{_≡_, refl, ap}
+use mathlib.Core.Bool.{false}
+use mathlib.Core.List.{[], _∷_}
+use native.Mathlib.Omega.{arith}
+use lib.Dec.{eqb}
+use lib.ListN.{length}
+use Rattle.calendar.specs.Calendar.{dateOf}
+use Rattle.state.specs.Device.{deviceOf}
+use Rattle.state.specs.State.{inRange}
+use Rattle.state.specs.declared.state.Clock.{Clock}
+use Rattle.clock.specs.Rollover.{rolledOver}
+use Rattle.clock.specs.Tick.{unitIn, ticked, tickRefusal, tickOf}
+use Rattle.clock.specs.Reading.{readingRefusal, readingOf}
+use Rattle.clock.specs.Ticks.{ranOf, ticksOf}
+use Rattle.clock.specs.declared.reading.Reading as shows
+use Rattle.number.specs.Reading.{leadingMore, valueOf, judged, numberAt}
+use Rattle.number.specs.Sequence.{then}
+use Rattle.label.specs.Label.{labelOf}
+use Rattle.event.specs.declared.event.Call.the-variants.{Tick, Reading}
+use Rattle.event.specs.declared.event.Event.the-variants.{Call as single}
+use Rattle.bounds.specs.Calls.{afterBy, countAmong, noneAmong}
+use Rattle.bounds.specs.Singly.{singleTicks, singlyFrom, asEvents}
+use Rattle.bounds.specs.Measure.{measureOf}
+use Rattle.history.specs.Event.{ticksAt, argumentsAt, eventAt}
+use Rattle.playback.specs.Lines.{decimalFrom, decimal, printLine}
+use Rattle.playback.specs.Event.{outcomeOf}
+use Rattle.playback.specs.Run.{step, runAfter}
+use Rattle.playback.specs.Calls.{Replayer, PrintAt, callsFrom, callsOfFirst}
+use Rattle.playback.specs.WrongReplays.{printBetween, WrongReplays}
+use Rattle.playback.proofs.Apart.{not-most, not-same, byte-apart}
+
+micros-apart : {a b : Clock} → eqb (a .micros .0) (b .micros .0) ≡ false → a ≡ b → ⊥
+micros-apart e h = not-same e (ap (λ (c : Clock). c .micros .0) h)
+
+shown-apart : {a b : shows.Reading} → eqb (a .micros .0) (b .micros .0) ≡ false → a ≡ b → ⊥
+shown-apart e h = not-same e (ap (λ (c : shows.Reading). c .micros .0) h)
+
+-- the event between the ticks is a print, of whatever stands there after the first
+print-at : (x : Replayer) → x .after 1 printBetween .ended ≡ false → x .after 1 printBetween .place ≡ 2
+    → PrintAt x printBetween 1
+unfolding leadingMore valueOf judged numberAt then argumentsAt eventAt
+print-at x going place = record { fits = omega arith; going = going; next = 3; print = rw place }
+
+pub wrong-replays : WrongReplays
+unfolding deviceOf measureOf dateOf inRange rolledOver unitIn ticked tickRefusal tickOf readingRefusal
+    readingOf ranOf ticksOf leadingMore valueOf judged numberAt then ticksAt argumentsAt eventAt labelOf
+    decimalFrom decimal printLine outcomeOf step runAfter afterBy countAmong noneAmong singleTicks singlyFrom
+    asEvents callsFrom callsOfFirst
+wrong-replays =
+    record {
+      idling = λ d. not-most refl (d .demand .third [] (single Tick ∷ []) [] refl refl);
+      forgetting = λ d. micros-apart refl (d .clock);
+      staying = λ d. micros-apart refl (d .clocks 1);
+      unlisted = λ d. omega (arith, ap length (d .prints 1 (print-at _ refl refl) .among));
+      printing = λ d. byte-apart 23 refl (d .prints 1 (print-at _ refl refl) .line);
+      refusing = λ d. not-same refl (d .prints 1 (print-at _ refl refl) .refusal);
+      zeros = λ d. shown-apart refl (d .prints 1 (print-at _ refl refl) .reading);
+    }

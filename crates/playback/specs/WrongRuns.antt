@@ -1,0 +1,69 @@
+-- Answers that the statements about runs shut out, each at a short history: what a call of `fill` may not answer,
+-- what repeated calls may not come to. Each meets all that is stated but for the field that it stands for.
+use mathlib.Core.Bool.{true, false}
+use mathlib.Core.List.{List, [], _∷_, _++_}
+use Prim.Native.Nat.{ℕ, _<_}
+use lib.ListN.{replicate}
+use Rattle.state.specs.Device.{kind256, kind1024}
+use Rattle.state.specs.State.{freshClock}
+use Rattle.playback.specs.Lines.{printLine}
+use Rattle.playback.specs.Run.{startOfRun, endOf}
+use Rattle.playback.specs.Filling.{Fills}
+use Rattle.playback.specs.Repeated.{Replays}
+use Rattle.playback.specs.declared.run.Run.{Run}
+use Rattle.playback.specs.declared.run.Filling.{Filling}
+
+-- a history of one event, a print
+abbrev pub onePrint : List ℕ
+onePrint = 0x03 ∷ []
+
+-- its line, of 30 bytes
+abbrev pub itsLine : List ℕ
+itsLine = printLine (freshClock kind256)
+
+-- where its run stands after the print, and where it has ended
+abbrev pub afterPrint : Run
+afterPrint = record { clock = freshClock kind256; place = 1; ended = false }
+
+abbrev pub atEnd : Run
+atEnd = endOf afterPrint
+
+-- a lent buffer of n bytes
+abbrev pub blank : ℕ → List ℕ
+blank n = replicate n 0
+
+abbrev pub answer : ℕ → Run → ℕ → Filling
+answer refusal run length = record { refusal = refusal; run = run; length = length }
+
+-- What a call may not answer, and leave in the buffer.
+pub record WrongFills : Type 0 where
+  -- it refuses a run that has ended
+  pub refusing : Fills onePrint atEnd [] [] (answer 14 atEnd 0) → ⊥
+  -- it writes nothing and does not go on, so that repeating it never ends
+  pub idle : Fills onePrint startOfRun (blank 30) (blank 30) (answer 0 startOfRun 0) → ⊥
+  -- it goes on to the end of the bytes without room for one more line
+  pub crowded : Fills onePrint startOfRun (blank 30) itsLine (answer 0 atEnd 30) → ⊥
+  -- it counts a step after the run has ended
+  pub late : (f : Fills onePrint afterPrint (blank 30) (blank 30) (answer 0 atEnd 0)) → 1 < f .steps → ⊥
+  -- it writes the line and does not go past the print, so that the line is written again
+  pub stuck : Fills onePrint startOfRun (blank 30) itsLine (answer 0 startOfRun 30) → ⊥
+  -- it goes past the print and does not write the line, though it tells its length
+  pub unwritten : Fills onePrint startOfRun (blank 30) (blank 30) (answer 0 afterPrint 30) → ⊥
+  -- it says that the run has ended, and wrote no line
+  pub silent : Fills onePrint startOfRun (blank 60) (blank 60) (answer 0 atEnd 0) → ⊥
+  -- it changes a byte behind the line
+  pub spilling : Fills onePrint startOfRun (blank 31) (itsLine ++ (1 ∷ [])) (answer 0 afterPrint 30) → ⊥
+  -- it leaves a longer buffer than it was lent
+  pub growing : Fills onePrint startOfRun (blank 30) (itsLine ++ (0 ∷ [])) (answer 0 afterPrint 30) → ⊥
+  -- it tells more bytes than the buffer has
+  pub overrun : Fills onePrint startOfRun (blank 30) itsLine (answer 0 afterPrint 31) → ⊥
+
+-- What two calls with room for a line each may not come to: one more than the history has bytes.
+pub record WrongRepeats : Type 0 where
+  -- the run has not ended
+  pub endless : Replays onePrint 2 itsLine afterPrint → ⊥
+  -- nothing was written
+  pub silent : Replays onePrint 2 [] atEnd → ⊥
+  -- the clock is none that the history leaves
+  pub elsewhere : Replays onePrint 2 itsLine (record { clock = freshClock kind1024; place = 1; ended = true })
+      → ⊥
