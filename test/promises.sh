@@ -1,4 +1,5 @@
-# .ci/promises on a planted repository: a name, a theorem, a statement or a lie that is gone is told, and so is one that has no row.
+# .ci/promises on a planted repository: a name, a theorem, a statement or a lie that is gone is told, and so
+# is one that has no row.
 # shellcheck shell=sh
 
 promised=$work/promised
