@@ -146,6 +146,7 @@ function read_refused(cell,    i, n, list, last) {
 
 !/^    / {
     place = FILENAME ":" FNR
+    if (gsub(/`/, "`") % 2) fault(place, "a name in `..` goes over the end of the line: put it on one")
     # what a theorem says is compared as a whole
     split($0, cell, / \| |^\| | \|$/)
     if (section == "The theorems" && /^\| `/) {
