@@ -1,5 +1,5 @@
-# Judges the contracts of public functions: reads the names of .ci/names, and then the items of .ci/items. See .ci/contracts for what a
-# contract must say.
+# Judges the contracts of public functions: reads the names of .ci/names, and then the items of .ci/items. See
+# .ci/contracts for what a contract must say.
 
 BEGIN {
     FS = "\t"
@@ -23,7 +23,8 @@ in_names {
     next
 }
 
-# A name that a file brings from a specs/ folder: Rattle.CRATE.specs.FILE.NAME, or in the crate itself Rattle.CRATE.specs.FILE.NAME.
+# A name that a file brings from a specs/ folder: Rattle.CRATE.specs.FILE.NAME, or in the crate itself
+# Rattle.CRATE.specs.FILE.NAME.
 $1 == "ghost" {
     path = $6
     if (index(path, "Rattle·") != 1) next
@@ -85,18 +86,20 @@ function parts_at(sign, text, part,    i, c, deep, n) {
 }
 
 # Whether a text has a word, and not as a part of another or as the name of a field.
-function has(text, word,    at, rest) {
+function has(text, word,    at, end, rest) {
     rest = " " text " "
     while (at = index(rest, word)) {
-        if (substr(rest, at - 1, 1) !~ /[A-Za-z0-9_'.-]/ && substr(rest, at + length(word), 1) !~ /[A-Za-z0-9_'-]/) return 1
-        rest = "x" substr(rest, at + length(word))
+        end = at + length(word)
+        if (substr(rest, at - 1, 1) !~ /[A-Za-z0-9_'.-]/ && substr(rest, end, 1) !~ /[A-Za-z0-9_'-]/) return 1
+        rest = "x" substr(rest, end)
     }
     return 0
 }
 
 # ---- a function
 
-# What a public contract may name: a definition of specs/, but not of Inner, and no parameter that has its name.
+# What a public contract may name: a definition of specs/, but not of Inner, and no parameter that has its
+# name.
 function defines(word,    path) {
     if (!((file, word) in brought) || (word in parameter)) return 0
     path = brought[file, word]
@@ -133,13 +136,15 @@ function read_signature(text,    n, i, list, deep) {
 
 function complain(why) { complaint[++refused] = place ": " name " is public and " why }
 
-# One of the statements that a clause joins by ×. It sets `told` where it says what the result is, and names what is lent in `remains`.
+# One of the statements that a clause joins by ×. It sets `told` where it says what the result is, and names
+# what is lent in `remains`.
 function judge(text, result,    n, i, p) {
     text = bare(text)
     n = parts_at("×", text, p)
     if (n > 1) for (i = 1; i <= n; i++) later[++waiting] = p[i]
     else if (parts_at("≡", text, p) == 2) judge_equation(text, bare(p[1]), bare(p[2]), result)
-    else if (parts_at("≤", text, p) == 2 || parts_at("<", text, p) == 2) judge_order(text, bare(p[1]), bare(p[2]), result)
+    else if (parts_at("≤", text, p) == 2 || parts_at("<", text, p) == 2)
+        judge_order(text, bare(p[1]), bare(p[2]), result)
     else judge_relation(text, result)
 }
 
@@ -157,14 +162,16 @@ function judge_equation(text, left, right, result,    head, of) {
 }
 
 function judge_order(text, left, right, result) {
-    if (has(left, result) == has(right, result)) complain("says nothing of its result but by itself, or does not name it: " text)
+    if (has(left, result) == has(right, result))
+        complain("says nothing of its result but by itself, or does not name it: " text)
 }
 
 function judge_relation(text, result,    head) {
     head = text
     sub(/ .*/, "", head)
     if (!defines(head)) complain("has a promise that is no equation, no order and no relation of specs/: " text)
-    else if (!has_parameter(substr(text, length(head) + 1))) complain("says nothing of its result but by itself: " text)
+    else if (!has_parameter(substr(text, length(head) + 1)))
+        complain("says nothing of its result but by itself: " text)
     else if (!has(text, result) && text !~ /\.exit\)/) complain("does not name its result: " text)
     else {
         if (substr(text, length(text) - length(result)) == " " result || index(text, " " result " ")) told = 1
@@ -180,12 +187,14 @@ function lent_is_told(text,    name) {
 function judge_clause(text,    result, p) {
     text = trim(text)
     result = text
-    if (!sub(/^λ */, "", result) || !match(result, /^[A-Za-z_][A-Za-z_0-9]*\. */)) return complain("has a clause of no known form: " text)
+    if (!sub(/^λ */, "", result) || !match(result, /^[A-Za-z_][A-Za-z_0-9]*\. */))
+        return complain("has a clause of no known form: " text)
     text = trim(substr(result, RLENGTH + 1))
     result = substr(result, 1, RLENGTH)
     sub(/\. *$/, "", result)
     sub(/^do +/, "", text)
-    if (parts_at("⌜", text, p) != 2 || p[1] != "" || parts_at("⌝", p[2], p) != 2 || p[2] != "") return complain("has a clause of no known form: " text)
+    if (parts_at("⌜", text, p) != 2 || p[1] != "" || parts_at("⌝", p[2], p) != 2 || p[2] != "")
+        return complain("has a clause that is not one ⌜ .. ⌝: " text)
     waiting = 1
     later[1] = p[1]
     while (waiting) judge(later[waiting--], result == "_" ? "\001" : result)

@@ -1,11 +1,14 @@
-# What an edit is, and how it is put into a crate: for .ci/lies, which sets `root`, the repository, `listed`, its crates, and `work`.
+# What an edit is, and how it is put into a crate: for .ci/lies, which sets `root`, the repository, `listed`,
+# its crates, and `work`.
 # shellcheck shell=sh
 
 # Says what is wrong with the form of an edit, by its lines alone.
 form_of() { # FILE
     awk '
         function wrong(why) { if (!told) print why; told = 1 }
-        NR == 1 && !/^# [A-Z0-9].*[.]$/ { wrong("its first line is not `# ` and a sentence that says what is wrong") }
+        NR == 1 && !/^# [A-Z0-9].*[.]$/ {
+            wrong("its first line is not `# ` and a sentence that says what is wrong")
+        }
         NR == 1 && length($0) > 110 { wrong("its first line has more than 110 columns") }
         NR == 2 && !/^file: / { wrong("its second line is no `file:` line") }
         NR == 1 { next }
@@ -90,8 +93,12 @@ place_of() { # FILE
 # Says what is wrong with the edits of one kind: their names, their form, and whether they fit the crate.
 misfits() { # NAME KIND
     for path in "$root/crates/$1/$2"/* "$root/crates/$1/$2"/.[!.]*; do
-        [ -f "$path" ] || [ ! -e "$path" ] || echo "$1/$2/${path##*/}: it is no file"
-        case $path in *.edit) ;; *) [ ! -e "$path" ] || echo "$1/$2/${path##*/}: its name does not end in .edit, so nothing tries it" ;; esac
+        [ -e "$path" ] || continue
+        [ -f "$path" ] || echo "$1/$2/${path##*/}: it is no file"
+        case $path in
+        *.edit) ;;
+        *) echo "$1/$2/${path##*/}: its name does not end in .edit, so nothing tries it" ;;
+        esac
     done
     for label in $(edits_of "$1" "$2"); do
         why=$(form_of "$root/crates/$1/$2/$label.edit")
@@ -104,8 +111,8 @@ misfits() { # NAME KIND
     rm -rf "$work/form"
 }
 
-# Says what is wrong between the edits of a crate: a lie stands in one place, a harmless edit is the twin of a lie, and a crate that has
-# lies has one.
+# Says what is wrong between the edits of a crate: a lie stands in one place, a harmless edit is the twin of a
+# lie, and a crate that has lies has one.
 strays() { # NAME
     for label in $(edits_of "$1" lies); do
         [ ! -f "$root/crates/$1/must-fail/$label.edit" ] || echo "$1/lies/$label: it stands in must-fail/ too"

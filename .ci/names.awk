@@ -1,4 +1,5 @@
-# The names that the files of specs/ and proofs/ give, for .ci/names: lines KIND NAME FILE, and of a law its type as a fourth field.
+# The names that the files of specs/ and proofs/ give, for .ci/names: lines KIND NAME FILE, and of a law its
+# type as a fourth field.
 
 function emit(kind, name, type) { print kind "\t" name "\t" file (type == "" ? "" : "\t" type) }
 
@@ -44,7 +45,8 @@ law != "" && /[^ ]/ && indent() > margin {
 /^ *pub mod / { next }
 
 in_specs && /^(abbrev |unfoldable )?pub / {
-    emit("definition", name_of(), /^(abbrev |unfoldable )?pub (record )?[^ ]+ : Type [0-9]( where)?$/ ? "statement" : "")
+    is_statement = /^(abbrev |unfoldable )?pub (record )?[^ ]+ : Type [0-9]( where)?$/
+    emit("definition", name_of(), is_statement ? "statement" : "")
     next
 }
 
@@ -57,6 +59,8 @@ in_specs && /^(abbrev |unfoldable )?pub / {
     next
 }
 
-/^ *(pub )?[^ :({]+ :/ || /^ *(abbrev |unfoldable |pub )*(record|data) [^{]/ { emit(in_specs ? "field" : "law", name_of()) }
+/^ *(pub )?[^ :({]+ :/ || /^ *(abbrev |unfoldable |pub )*(record|data) [^{]/ {
+    emit(in_specs ? "field" : "law", name_of())
+}
 
 END { end_type() }

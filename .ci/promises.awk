@@ -1,5 +1,5 @@
-# Reads the names of .ci/names and then docs/PROMISES.md, and prints what .ci/promises tells: lines 'fault PLACE WHY', 'path PLACE PATH' of
-# the paths to be looked up, and 'count' with a sentence, with a tab between.
+# Reads the names of .ci/names and then docs/PROMISES.md, and prints what .ci/promises tells: lines 'fault
+# PLACE WHY', 'path PLACE PATH' of the paths to be looked up, and 'count' with a sentence, with a tab between.
 
 BEGIN {
     FS = "\t"
@@ -64,7 +64,8 @@ function look_up(name, place,    first) {
     else {
         sub(/\.antt$/, "", name)
         if (name ~ /^[A-Za-z][A-Za-z0-9_'-]*$/ && !(name in known))
-            fault(place, "`" name "` is no definition, theorem, kept lie, example, crate or item of the code: correct the name, or what lost it")
+            fault(place, "`" name "` is no definition, theorem, kept lie, example, crate or item of the code: " \
+                "correct the name, or what lost it")
     }
 }
 
@@ -84,7 +85,8 @@ function read_names(line, place,    gap, name, list, n, i) {
         look_up(name, place)
         if (name ~ /\/(specs|proofs)\/.*\.antt$/) {
             if (gap ~ /^,? in $/) {
-                for (i = 1; i <= n; i++) if (!((list[i], "crates/" name) in in_file)) fault(place, "`" list[i] "` is not in `" name "`")
+                for (i = 1; i <= n; i++)
+                    if (!((list[i], "crates/" name) in in_file)) fault(place, "`" list[i] "` is not in `" name "`")
             }
             n = 0
             continue
@@ -120,10 +122,12 @@ function read_theorem(cell, place,    name, says, file, n, i, list, found) {
     file = "crates/" file
     n = split(names_of(cell[5]), list, " ")
     for (i = 1; i <= n; i++) if ((list[i], crate) in is_kept) found = 1
-    if ((says in is_statement) && !found) fault(place, "`" name "` has no lie of crates/" crate "/must-fail/ or lies/ in its row: add one that the check refuses, and its name")
+    if ((says in is_statement) && !found)
+        fault(place, "`" name "` has no lie of crates/" crate "/must-fail/ or lies/ in its row: add one, and its name")
     rows++
     if ((name, file, says) in type) is_held[name, file] = 1
-    else if ((name, file) in in_file) fault(place, "`" name "` in " file " does not say `" says "`: its type there is another")
+    else if ((name, file) in in_file)
+        fault(place, "`" name "` in " file " does not say `" says "`: its type there is another")
     else fault(place, "there is no theorem `" name "` in " file)
 }
 
@@ -142,6 +146,7 @@ function read_refused(cell,    i, n, list, last) {
 
 !/^    / {
     place = FILENAME ":" FNR
+    if (gsub(/`/, "`") % 2) fault(place, "a name in `..` goes over the end of the line: put it on one")
     # what a theorem says is compared as a whole
     split($0, cell, / \| |^\| | \|$/)
     if (section == "The theorems" && /^\| `/) {
@@ -160,7 +165,8 @@ function hold_theorems(    i) {
         if (!(statement[i] in is_statement) || ((theorem[i], where[i]) in is_held)) continue
         file = where[i]
         sub(/^crates\//, "", file)
-        fault(where[i], "`" theorem[i] "` is in no row under \"The theorems\" of docs/PROMISES.md; add: | `" theorem[i] "` | `" statement[i] "` | `" file "` | `its most telling lie` |")
+        fault(where[i], "`" theorem[i] "` is in no row under \"The theorems\" of docs/PROMISES.md; add: | `" \
+            theorem[i] "` | `" statement[i] "` | `" file "` | `THE LIE THAT TELLS MOST` |")
     }
 }
 
@@ -170,14 +176,16 @@ function hold_functions(    i, k, n, list, found) {
         found = 0
         for (k = 1; k <= n; k++) if ((list[k], function_crate[i]) in is_tried) found = 1
         if (!found)
-            fault("crates/" function_crate[i], function_name[i] " has no row under \"What the prover refuses\" of docs/PROMISES.md with a lie of crates/" function_crate[i] "/must-fail/ in its second column: add it, and the lie")
+            fault("crates/" function_crate[i], function_name[i] " has no row under \"What the prover refuses\" of " \
+                "docs/PROMISES.md with a lie of crates/" function_crate[i] "/must-fail/ in its second column: add both")
     }
 }
 
 function hold_lies(    i) {
     for (i = 1; i <= edits; i++)
         if (!index(lies_named, " " edit[i] " ") && !index(lies_named, " " folder[i] " "))
-            fault("crates/" folder[i] edit[i] ".edit", "it is not named under \"What the prover refuses\" of docs/PROMISES.md: add `" edit[i] "` to the row of what it lies about")
+            fault("crates/" folder[i] edit[i] ".edit", "it is not named under \"What the prover refuses\" of " \
+                "docs/PROMISES.md: add `" edit[i] "` to the row of what it lies about")
 }
 
 END {
@@ -186,5 +194,6 @@ END {
     hold_theorems()
     hold_functions()
     hold_lies()
-    print "count\t" rows " theorems with their statements, " functions " public functions and " edits " lies; every name is found"
+    print "count\t" rows " theorems with their statements, " functions " public functions and " edits \
+        " lies; every name is found"
 }

@@ -222,7 +222,8 @@ empty_forms() {
 (most: u8) -> u8|ensures { λ r. ⌜ r ≡ most ⌝ }|says by no definition of specs/ what a thing is: r ≡ most
 (x: u8) -> u8|ensures { λ r. ⌜ (r ≡ same x) × (r ≡ r) ⌝ }|says of a thing that it is itself: r ≡ r
 (x: u8) -> u8|ensures { λ r. ⌜ r ≡ r → r ≡ same x ⌝ }|has a promise that is no equation, no order and no relation of specs/: r ≡ r → r ≡ same x
-(x: u8) -> u8|ensures { λ r. emp }|has a clause of no known form: emp
+(x: u8) -> u8|ensures { λ r. emp }|has a clause that is not one ⌜ .. ⌝: emp
+(x: u8) -> u8|ensures { emp }|has a clause of no known form: emp
 (x: u8) -> u8|ensures { λ _. do ⌜ (← ⟦MOST⟧ .entry) ≡ most ⌝ }|says by no definition of specs/ what its result is
 (x: u8) -> u8|ensures { λ _. ⌜ ⊤ ⌝ }|has a promise that is no equation, no order and no relation of specs/: ⊤
 (x: &mut u8) -> u8|ensures { λ r. ⌜ r ≡ same (now (x .entry)) ⌝ }|does not say what remains of x

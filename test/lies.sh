@@ -1,10 +1,12 @@
-# .ci/lies on a planted repository, with a stand-in for `rt` that judges a crate by words in its code: `wrong` is refused, `unread` is a
-# definition that can't be read, `broken` ends without a verdict, `mute` says nothing, and `sticky` is refused from then on.
+# .ci/lies on a planted repository, with a stand-in for `rt` that judges a crate by words in its code: `wrong`
+# is refused, `unread` is a definition that can't be read, `broken` ends without a verdict, `mute` says
+# nothing, and `sticky` is refused from then on.
 # shellcheck shell=sh
 
 liar=$work/liar
 
-# Writes an edit of a planted crate: NAME/KIND/LIE, the text that stands in the place of `fine`, and the first line.
+# Writes an edit of a planted crate: NAME/KIND/LIE, the text that stands in the place of `fine`, and the first
+# line.
 plant_edit() { # PLACE NEW [REASON]
     mkdir -p "$liar/crates/${1%/*}"
     printf '# %s\nfile: src/lib.rt\nold: fine\nnew: %s\n' "${3:-It is wrong.}" "$2" >"$liar/crates/$1.edit"
@@ -54,11 +56,18 @@ RT
     chmod +x "$liar/kit/rt"
 }
 
+# What stands in the repository, but for what the stand-in writes.
+sums_of_liar() {
+    (cd "$liar" && find crates crates.txt .ci target -type f | sort | xargs cksum)
+}
+
 run_liar() { # WORDS...
-    (cd "$liar" && find . -path ./tmp -prune -o -path ./calls -prune -o -path ./sticky -prune -o -type f -print | sort | xargs cksum) >"$work/before"
-    LIAR=$liar PATH=$liar/kit:$PATH TMPDIR=$liar/tmp LC_ALL=C.UTF-8 RT_JOBS=${RT_JOBS:-1} status_of "$liar/.ci/lies" "$@" </dev/null
-    (cd "$liar" && find . -path ./tmp -prune -o -path ./calls -prune -o -path ./sticky -prune -o -type f -print | sort | xargs cksum) >"$work/after"
-    cmp -s "$work/before" "$work/after" && [ -z "$(ls "$liar/tmp")" ] || { shown "the repository is changed, or something is left behind"; return 1; }
+    sums_of_liar >"$work/before"
+    LIAR=$liar PATH=$liar/kit:$PATH TMPDIR=$liar/tmp LC_ALL=C.UTF-8 RT_JOBS=${RT_JOBS:-1} \
+        status_of "$liar/.ci/lies" "$@" </dev/null
+    sums_of_liar >"$work/after"
+    cmp -s "$work/before" "$work/after" && [ -z "$(ls "$liar/tmp")" ] ||
+        shown "the repository is changed, or something is left behind"
 }
 
 # Whether the last run ended with this status and this last line.

@@ -1,7 +1,8 @@
 # .ci/lies with the kit itself, on a crate of one function.
 # shellcheck shell=sh
 
-# The kit itself refuses a lie, proves its twin, and gives a definition that can't be read the verdict that must not count.
+# The kit itself refuses a lie, proves its twin, and gives a definition that can't be read the verdict that
+# must not count.
 lies_of_the_kit() {
     liar=$work/liar_of_the_kit
     mkdir -p "$liar/.ci" "$liar/tmp" "$liar/crates/one/src" "$liar/crates/one/specs"

@@ -1,4 +1,5 @@
-# .ci/promises on a planted repository: a name, a theorem, a statement or a lie that is gone is told, and so is one that has no row.
+# .ci/promises on a planted repository: a name, a theorem, a statement or a lie that is gone is told, and so
+# is one that has no row.
 # shellcheck shell=sh
 
 promised=$work/promised
@@ -125,6 +126,7 @@ all of `two/lies/`|more|crates/two/lies/other_same.edit: it is not named
 `not_..`|`nor_..`|docs/PROMISES.md:4: no name begins with `nor_`
 `always : Always`|`always : Found`|docs/PROMISES.md:4: no theorem is `always : Found`
 `told 0`|`tell 0`|docs/PROMISES.md:4: `tell` is no definition
+`told 0`|`told 0|docs/PROMISES.md:4: a name in `..` goes over the end of the line
 `one/lies/`|`one/tales/`|docs/PROMISES.md:4: there is no one/tales/
 ## The theorems|## Theorems|docs/PROMISES.md: it has no table under "The theorems"
 ROWS
