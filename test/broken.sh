@@ -39,8 +39,8 @@ tests_on_copy() { # WORD...
 # Without an edit every test passes on a copy, so that it is the edit that is noticed.
 sound_copy() {
     sound=''
-    # shellcheck disable=SC2046
-    tests_on_copy $(sed -n 's/^in .*, noticed by //p' "$list" | sort -u) || { cat "$copy.log"; return 1; }
+    # shellcheck disable=SC2086
+    tests_on_copy $noticing || { cat "$copy.log"; return 1; }
 }
 
 # The test must fail on a copy with the edit. SOUND names what is known to pass: a program that the edit does not touch is
@@ -95,6 +95,10 @@ note() { # NAME FILE TEST OLD NEW
     printf '%s\n' "$@" >"$edits/$count/edit"
     count=$((count + 1))
 }
+
+# Without a name a copy would run all tests, this one again, and so without end.
+noticing=$(sed -n 's/^in .*, noticed by //p' "$list" | sort -u)
+case " $(echo $noticing) " in '  ' | *' broken '*) stop "$list names no test that notices anything, or names this one" ;; esac
 
 note "a copy that is not broken" '' '' '' ''
 file='' old=''

@@ -130,7 +130,7 @@ nobody_reads() {
 while sleep 0.1 2>/dev/null || sleep 1; do echo "rt: at work"; done
 MOOD
     mkfifo "$gate/ear"
-    GATE=$gate PATH=$gate/kit:$PATH TMPDIR=$gate/tmp "$gate/.ci/run" </dev/null >"$gate/ear" 2>&1 &
+    GATE=$gate PATH=$gate/kit:$PATH TMPDIR=$gate/tmp $hearing "$gate/.ci/run" </dev/null >"$gate/ear" 2>&1 &
     script=$!
     grep -q -m 1 'rt: at work' <"$gate/ear"
     wait "$script"

@@ -266,7 +266,7 @@ nobody_listens() {
     echo talk >"$kit/orders"
     mkdir -p "$work/tmp"
     mkfifo "$work/ear"
-    KIT=$kit PATH=$kit:$PATH TMPDIR=$work/tmp "$repo/bin/replay" </dev/null >"$work/out" 2>"$work/ear" &
+    KIT=$kit PATH=$kit:$PATH TMPDIR=$work/tmp $hearing "$repo/bin/replay" </dev/null >"$work/out" 2>"$work/ear" &
     script=$!
     head -n 1 <"$work/ear" >"$work/heard"
     wait "$script"
