@@ -60,7 +60,8 @@ lengths() {
     refused_text 'repeat 65537 tick 34359738367\nrepeat 65537 tick 34359738367\n' 'line 1: more than 65537 bytes'
 }
 
-# An input without end is refused, and soon: by the processor seconds of its own that it takes, some tenths of one where it is one line.
+# An input without end is refused, and soon: by the processor seconds of its own that it takes, some tenths of
+# one where it is one line.
 endless() {
     status_of_work 6 bin/history bytes </dev/zero
     refused_with 1 'history: line 1: a line has at most 524288 characters: ???' || return 1

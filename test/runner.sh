@@ -78,8 +78,8 @@ notices_itself() {
         does_not_count 'passed=$((passed + 1))' 'true'
 }
 
-# A list of four edits: one that is noticed, one that is harmless, one whose text is not there, one whose text is there
-# twice. The copy that is not broken passes.
+# A list of four edits: one that is noticed, one that is harmless, one whose text is not there, one whose text
+# is there twice. The copy that is not broken passes.
 planted_edits() {
     cat >"$work/edits_planted" <<'EDITS'
 = arguments are taken
