@@ -1,5 +1,6 @@
-# Every broken version of test/broken.edits, or of the list that EDITS names, is noticed by its test. As many are tried at once as there are processors, at
-# most four, each worker on a copy of its own, which it puts back after each version; they are told in the list's order.
+# Every broken version of test/broken.edits, or of the list that EDITS names, is noticed by its test. As many
+# are tried at once as there are processors, at most four, each worker on a copy of its own, which it puts
+# back after each version; they are told in the list's order.
 # shellcheck shell=sh
 
 edits=$work/edits list=${EDITS:-test/broken.edits}
@@ -18,8 +19,8 @@ replace() { # FILE OLD NEW
         }' "$1" >"$copy.edited" && cat "$copy.edited" >"$1"
 }
 
-# A copy of what the tests look at, and of the runner beside the one that an edit may break. The programs are put there
-# last, and so are not built again; nor are the libraries for C.
+# A copy of what the tests look at, and of the runner beside the one that an edit may break. The programs are
+# put there last, and so are not built again; nor are the libraries for C.
 new_copy() {
     mkdir -p "$copy/target/bin"
     # shellcheck disable=SC2086
@@ -39,14 +40,17 @@ tests_on_copy() { # WORD...
 # Without an edit every test passes on a copy, so that it is the edit that is noticed.
 sound_copy() {
     sound=''
-    # shellcheck disable=SC2046
-    tests_on_copy $(sed -n 's/^in .*, noticed by //p' "$list" | sort -u) || { cat "$copy.log"; return 1; }
+    # shellcheck disable=SC2086
+    tests_on_copy $noticing || { cat "$copy.log"; return 1; }
 }
 
-# The test must fail on a copy with the edit. SOUND names what is known to pass: a program that the edit does not touch is
-# not tried again.
+# The test must fail on a copy with the edit. SOUND names what is known to pass: a program that the edit does
+# not touch is not tried again.
 noticed() { # FILE TEST OLD NEW
-    replace "$copy/$1" "$3" "$4" || { echo "the edit does not fit $1: '$3' does not stand there once"; return 1; }
+    if ! replace "$copy/$1" "$3" "$4"; then
+        echo "the edit does not fit $1: '$3' does not stand there once"
+        return 1
+    fi
     sound=$top
     tests_on_copy --first "$2"
     passes=$?
@@ -61,6 +65,17 @@ put_back() {
     for part in $parts; do diff -r "$part" "$copy/$part" || return 1; done
 }
 
+try_one() { # NUMBER
+    [ "$1" -gt 0 ] || { sound_copy; return; }
+    {
+        IFS= read -r file
+        IFS= read -r by
+        IFS= read -r old
+        IFS= read -r new
+    } <"$edits/$1/edit"
+    noticed "$file" "$by" "$old" "$new"
+}
+
 # Tries what no other worker has begun, the sound copy first, and says the number of each.
 try_edits() { # WORKER
     copy=$work/copy$1 tests=''
@@ -69,8 +84,7 @@ try_edits() { # WORKER
     number=0
     while [ -d "$edits/$number" ]; do
         if mkdir "$edits/$number/begun" 2>/dev/null; then
-            { IFS= read -r file && IFS= read -r by && IFS= read -r old && IFS= read -r new; } <"$edits/$number/edit"
-            if [ "$number" -eq 0 ]; then sound_copy; else noticed "$file" "$by" "$old" "$new"; fi >"$edits/$number/told" 2>&1
+            try_one "$number" >"$edits/$number/told" 2>&1
             echo $? >"$edits/$number/ended"
             mv "$edits/$number/ended" "$edits/$number/status"
             echo "$number"
@@ -95,6 +109,13 @@ note() { # NAME FILE TEST OLD NEW
     printf '%s\n' "$@" >"$edits/$count/edit"
     count=$((count + 1))
 }
+
+# Without a name a copy would run all tests, this one again, and so without end.
+noticing=$(sed -n 's/^in .*, noticed by //p' "$list" | sort -u)
+# shellcheck disable=SC2086
+case " $(echo $noticing) " in
+'  ' | *' broken '*) stop "$list names no test that notices anything, or names this one" ;;
+esac
 
 note "a copy that is not broken" '' '' '' ''
 file='' old=''
@@ -134,4 +155,8 @@ while read -r _; do
 done <"$edits/lines"
 workers=''
 [ "$next" -eq "$count" ] || fault "of $count broken versions only $next were tried"
-for left in "$edits"/copy*; do [ ! -f "$left" ] || tell "a copy is put back" sh -c 'cat "$1"; false' sh "$left"; done
+not_put_back() { # DIFFERENCES
+    cat "$1"
+    return 1
+}
+for left in "$edits"/copy*; do [ ! -f "$left" ] || tell "a copy is put back" not_put_back "$left"; done

@@ -88,7 +88,8 @@ each_as_its_replay() {
     done
 }
 
-# Where broken versions are tried, SOUND is a folder whose programs are known to be right: whether these files are as there.
+# Where broken versions are tried, SOUND is a folder whose programs are known to be right: whether these files
+# are as there.
 untouched() { # FILE...
     [ -n "${SOUND:-}" ] || return 1
     for part in "$@"; do cmp -s "$part" "$SOUND/$part" || return 1; done

@@ -19,7 +19,8 @@ each_has_an_output() {
     done
 }
 
-# An output that is not the example's is seen: another line, one more, one fewer, none. So is a text that does not come back.
+# An output that is not the example's is seen: another line, one more, one fewer, none. So is a text that does
+# not come back.
 wrong_ones_are_seen() {
     cp examples/inserted_second.txt "$work/planted.txt"
     for change in 's/23:59:60Z/23:59:59Z/' '$p' '$d' d; do

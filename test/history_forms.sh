@@ -33,7 +33,8 @@ odd_input() {
     printf '' | bin/history text >"$work/text" && [ ! -s "$work/text" ] || { echo "no bytes"; return 1; }
 }
 
-# A number has at most five bytes, the last of which is below 128 and, but for 0 itself, not 0: text tells other bytes raw.
+# A number has at most five bytes, the last of which is below 128 and, but for 0 itself, not 0: text tells
+# other bytes raw.
 no_numbers() {
     for row in '0 128 128 128 128 128 1' '0 255 255 255 255 255 1' '128 128 128 128 128 0' '0 128 128 128 128 128' '0 128 0' '0 128' 4 '2 1'; do
         [ "$(echo "raw $row" | bin/history bytes | bin/history text)" = "raw $row" ] || { echo "not told raw: $row"; return 1; }

@@ -60,13 +60,14 @@ lengths() {
     refused_text 'repeat 65537 tick 34359738367\nrepeat 65537 tick 34359738367\n' 'line 1: more than 65537 bytes'
 }
 
-# An input without end is refused, and soon: by the processor seconds of its own that it takes, some tenths of one where it is one line.
+# An input without end is refused, and soon: by the processor seconds of its own that it takes, some tenths of
+# one where it is one line.
 endless() {
-    status_of_work 10 bin/history bytes </dev/zero
+    status_of_work 6 bin/history bytes </dev/zero
     refused_with 1 'history: line 1: a line has at most 524288 characters: ???' || return 1
     yes '# a comment of some forty characters, alone' 2>/dev/null | {
-        status_of_work 10 bin/history bytes
-        refused_with 1 'history: line 95326: a text has at most 4194304 characters: #'
+        status_of_work 6 bin/history bytes
+        refused_with 1 ': a text has at most 2097152 characters: #'
     }
 }
 
@@ -77,13 +78,13 @@ longest_text() {
     sed 's/#/##/' "$work/text" >"$work/longer"
     status_of bin/history bytes <"$work/longer"
     refused_with 1 'history: line 1: a line has at most 524288 characters: print ##xxx' || return 1
-    awk 'BEGIN { for (i = 0; i < 524287; i++) print "       "; print "  print" }' >"$work/text"
-    [ "$(wc -c <"$work/text")" -eq 4194304 ] && [ "$(bin/history bytes <"$work/text" | od -An -tx1)" = ' 03' ] || { echo "the longest text"; return 1; }
+    awk 'BEGIN { for (i = 0; i < 262143; i++) print "       "; print "  print" }' >"$work/text"
+    [ "$(wc -c <"$work/text")" -eq 2097152 ] && [ "$(bin/history bytes <"$work/text" | od -An -tx1)" = ' 03' ] || { echo "the longest text"; return 1; }
 }
 
+tell_awks "an input without end" endless
 tell_awks "lines that are refused" refused_lines
 tell_awks "blocks that are refused" refused_blocks
 tell_awks "lines of junk" refused_junk
 tell_awks "the longest history" lengths
-tell_awks "an input without end" endless
 tell_awks "the longest text" longest_text

@@ -3,11 +3,12 @@
 
 repo="$work/a repository" kit=$work/kit
 
-# A repository with three crates that the program is made of, each by the next, and one that it is not. The kit's rt
-# says what the true one says, notes each call, and builds a program that prints its input, but where its stamp has the
-# sources as they are: then it leaves the program alone, even one that is lost. It obeys a file `orders`: `fail`; `wait`
-# for a signal; `talk` for as long as somebody listens; `tire`, which builds a program that dies of a signal; `watch`,
-# one that waits for a signal; `break`, a file that can't be started; or `forget`, which builds none.
+# A repository with three crates that the program is made of, each by the next, and one that it is not. The
+# kit's rt says what the true one says, notes each call, and builds a program that prints its input, but where
+# its stamp has the sources as they are: then it leaves the program alone, even one that is lost. It obeys a
+# file `orders`: `fail`; `wait` for a signal; `talk` for as long as somebody listens; `tire`, which builds a
+# program that dies of a signal; `watch`, one that waits for a signal; `break`, a file that can't be started;
+# or `forget`, which builds none.
 new_repository() {
     rm -rf "$repo" "$kit"
     for folder in bin crates/base/src crates/part/src crates/part/must-fail crates/replay/src crates/other/src; do mkdir -p "$repo/$folder"; done
@@ -23,9 +24,10 @@ echo "$*, LC_ALL=$LC_ALL, in $(pwd)" >>"$KIT/calls"
 orders=$(cat "$KIT/orders")
 case $orders in
 wait | talk)
-    [ "$orders" = wait ] || echo "rt: base proved (1 s)"
     (trap ': >"$KIT/heard"; exit 1' TERM; : >"$KIT/ready"; sleep 30 & wait) &
-    [ "$orders" = wait ] || while sleep 0.1 2>/dev/null || sleep 1; do echo "rt: base proved (1 s)"; done
+    [ "$orders" = wait ] || while sleep 0.1 2>/dev/null || sleep 1; do
+        [ ! -f "$KIT/ready" ] || echo "rt: base proved (1 s)"
+    done
     wait
     ;;
 esac
@@ -160,7 +162,8 @@ refused_crate() {
     refused_with 1 'replay: the program could not be built'
 }
 
-# The tools that bin/replay needs, and no rt. Each that is missing is told, whether or not there is a program to run.
+# The tools that bin/replay needs, and no rt. Each that is missing is told, whether or not there is a program
+# to run.
 few_tools() {
     new_repository
     rm -rf "$work/tools"
@@ -177,7 +180,8 @@ few_tools() {
     done
 }
 
-# An awk that fails, and one that says nothing: which crates to look at is not known, and no old program is run.
+# An awk that fails, and one that says nothing: which crates to look at is not known, and no old program is
+# run.
 failing_awk() {
     new_repository
     replay_once || return 1
@@ -196,7 +200,8 @@ failing_awk() {
     rm "$work/wrong/find"
 }
 
-# Where target/ can't be written that is said, and not that a log has the reason. A program that is built is run.
+# Where target/ can't be written that is said, and not that a log has the reason. A program that is built is
+# run.
 read_only() {
     new_repository
     true >"$repo/target"
@@ -216,7 +221,8 @@ read_only() {
     refused_with 1 "replay: the program has to be built, and $repo/target can't be written"
 }
 
-# A signal that ends the program is the script's status, and told; a program that can't be started is no failed read.
+# A signal that ends the program is the script's status, and told; a program that can't be started is no
+# failed read.
 dead_program() {
     new_repository
     echo tire >"$kit/orders"
@@ -266,7 +272,7 @@ nobody_listens() {
     echo talk >"$kit/orders"
     mkdir -p "$work/tmp"
     mkfifo "$work/ear"
-    KIT=$kit PATH=$kit:$PATH TMPDIR=$work/tmp "$repo/bin/replay" </dev/null >"$work/out" 2>"$work/ear" &
+    KIT=$kit PATH=$kit:$PATH TMPDIR=$work/tmp $hearing "$repo/bin/replay" </dev/null >"$work/out" 2>"$work/ear" &
     script=$!
     head -n 1 <"$work/ear" >"$work/heard"
     wait "$script"

@@ -1,5 +1,5 @@
-# bin/replay with the true kit: its lines are understood, and a lost program is built again. No crate but the program's
-# has to be proved anew for that.
+# bin/replay with the true kit: its lines are understood, and a lost program is built again. No crate but the
+# program's has to be proved anew for that.
 # shellcheck shell=sh
 
 # The program is made to look old: each crate is told, as one that has not changed.

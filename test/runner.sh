@@ -78,10 +78,10 @@ notices_itself() {
         does_not_count 'passed=$((passed + 1))' 'true'
 }
 
-# A list of four edits: one that is noticed, one that is harmless, one whose text is not there, one whose text is there
-# twice. The copy that is not broken passes.
+# A list of four edits: one that is noticed, one that is harmless, one whose text is not there, one whose text
+# is there twice. The copy that is not broken passes.
 planted_edits() {
-    cat >"$work/planted" <<'EDITS'
+    cat >"$work/edits_planted" <<'EDITS'
 = arguments are taken
 in bin/replay, noticed by replay_script
 - *) usage "it takes no argument: a history comes on standard input" ;;
@@ -102,7 +102,7 @@ in bin/replay, noticed by replay_script
 - work
 + play
 EDITS
-    EDITS=$work/planted status_of_work 60 test/run broken
+    EDITS=$work/edits_planted status_of_work 60 test/run broken
     printf '%s\n' 'a copy that is not broken: as it should be' 'noticed: arguments are taken (replay_script): as it should be' \
         'noticed: nothing is wrong (replay_script): NOT as it should be' '    test/run replay_script passes' \
         'noticed: no such text (replay_script): NOT as it should be' \
@@ -118,8 +118,8 @@ broken_copy() {
     cp -R bin .ci test examples docs crates crates.txt c bench README.md CONTRIBUTING.md "$own"
     cp -R target/bin "$own/target"
     echo 'tell "it is broken" false' >>"$own/test/replay_script.sh"
-    printf '%s\n' '= all is wrong' 'in bin/replay, noticed by replay_script' '- set -u' '+ exit 1' >"$work/planted"
-    EDITS=$work/planted status_of_work 60 "$own/test/run" broken
+    printf '%s\n' '= all is wrong' 'in bin/replay, noticed by replay_script' '- set -u' '+ exit 1' >"$work/edits_planted"
+    EDITS=$work/edits_planted status_of_work 60 "$own/test/run" broken
     grep -qx 'a copy that is not broken: NOT as it should be' "$work/out" || shown "a broken copy"
 }
 
