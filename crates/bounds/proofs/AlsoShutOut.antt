@@ -1,7 +1,7 @@
 -- The other wrong clocks lack the promises that they are named for: each at one list, computed.
 use mathlib.Core.Path.{_≡_, refl, sym, ap}
 use mathlib.Core.Bool.{true, false, true≢false}
-use mathlib.Core.List.{[], _∷_}
+use mathlib.Core.List.{List, [], _∷_}
 use Prim.Native.Nat.{ℕ}
 use lib.Dec.{eqb}
 use lib.IntN.{pos, natAbs}
@@ -18,6 +18,7 @@ use Rattle.state.specs.declared.units.AskedMicros.{AskedMicros}
 use Rattle.request.specs.Request.{requestRefusal, requested, requestOf}
 use Rattle.request.specs.declared.request.Request as asked
 use Rattle.event.specs.declared.event.Call.the-variants.{Tick, Request}
+use Rattle.event.specs.declared.event.Event.{Event}
 use Rattle.event.specs.declared.event.Event.the-variants.{Call, CatchUp}
 use Rattle.cases.specs.Cases.{given, _≔_, _≔ℤ_, kind, micros, frequency, left, requestFor}
 use Rattle.bounds.specs.Calls.{Answers, afterBy, countAmongBy, noneAmongBy}
@@ -50,6 +51,9 @@ askedMicros u = record { 0 = u }
 abbrev offset : asked.Request
 offset = requestFor 1 (pos 1000) 0
 
+abbrev twoOffsets : List Event
+twoOffsets = Call (Request offset) ∷ Call (Request offset) ∷ []
+
 -- what is promised of a catch-up that stops at a rollover, as the only event of a list
 caught : {answers : Answers} → MadeSinglyBy answers → (c : Clock) (ceiling : ℕ)
     → answers c (CatchUp ceiling true) .refusal ≡ 0 → Ticked c ceiling true (answers c (CatchUp ceiling true))
@@ -64,10 +68,12 @@ also-shut-out = (
   record {
     fresh = λ d. not-below refl (d .fresh kind256 refl (Call Tick ∷ []) .first .near);
     set = λ d. not-below refl (d .set (offsetLeft kind256) 5 (askedMicros 0) [] refl .near);
-    held = λ d. not-same refl (ap natAbs (d .set (faster kind256) 5 (askedMicros 0) (Call Tick ∷ []) refl .held));
+    held = λ d.
+        not-same refl (ap natAbs (d .set (faster kind256) 5 (askedMicros 0) (Call Tick ∷ []) refl .held));
     near = λ d. not-below refl (d .fresh kind256 refl [] .near);
     heldSet = λ d. not-same refl (ap natAbs (d .set (offsetLeft kind256) 5 (askedMicros 0) [] refl .held));
-    clock = λ d. not-same refl (ap (λ (c : Clock). c .micros .0) (d (at kind256 0) (CatchUp 1 false ∷ []) .clock));
+    clock = λ d.
+        not-same refl (ap (λ (c : Clock). c .micros .0) (d (at kind256 0) (CatchUp 1 false ∷ []) .clock));
     each = λ d. true≢false (caught d (at kind256 999999) 2 refl .onward 0 (ltb-true 1 2 refl));
     most = λ d. not-most refl (caught d (at kind256 996093) 1 refl .most);
     second = λ d. not-most refl (d (at kind256 999999) [] refl refl refl .least);
@@ -75,15 +81,17 @@ also-shut-out = (
     soon = λ d. true≢false (sym (d kind256 (Call (Request offset) ∷ []) offset));
     apart = λ d.
         not-most refl
-        (d (at kind256 0) (Call (Request offset) ∷ Call (Request offset) ∷ []) [] [] [] offset offset refl refl refl refl);
+        (d (at kind256 0) twoOffsets [] [] [] offset offset refl refl refl refl);
   },
   record {
     fresh = λ d. not-below refl (d .fresh kind1024 refl (Call Tick ∷ []) .first .near);
     set = λ d. not-below refl (d .set (offsetLeft kind1024) 5 (askedMicros 0) [] refl .near);
-    held = λ d. not-same refl (ap natAbs (d .set (faster kind1024) 5 (askedMicros 0) (Call Tick ∷ []) refl .held));
+    held = λ d.
+        not-same refl (ap natAbs (d .set (faster kind1024) 5 (askedMicros 0) (Call Tick ∷ []) refl .held));
     near = λ d. not-below refl (d .fresh kind1024 refl [] .near);
     heldSet = λ d. not-same refl (ap natAbs (d .set (offsetLeft kind1024) 5 (askedMicros 0) [] refl .held));
-    clock = λ d. not-same refl (ap (λ (c : Clock). c .micros .0) (d (at kind1024 0) (CatchUp 1 false ∷ []) .clock));
+    clock = λ d.
+        not-same refl (ap (λ (c : Clock). c .micros .0) (d (at kind1024 0) (CatchUp 1 false ∷ []) .clock));
     each = λ d. true≢false (caught d (at kind1024 999999) 2 refl .onward 0 (ltb-true 1 2 refl));
     most = λ d. not-most refl (caught d (at kind1024 999023) 1 refl .most);
     second = λ d. not-most refl (d (at kind1024 999999) [] refl refl refl .least);
@@ -91,6 +99,6 @@ also-shut-out = (
     soon = λ d. true≢false (sym (d kind1024 (Call (Request offset) ∷ []) offset));
     apart = λ d.
         not-most refl
-        (d (at kind1024 0) (Call (Request offset) ∷ Call (Request offset) ∷ []) [] [] [] offset offset refl refl refl refl);
+        (d (at kind1024 0) twoOffsets [] [] [] offset offset refl refl refl refl);
   },
 )

@@ -12,7 +12,8 @@ use Rattle.event.specs.declared.event.Call.{Call}
 use Rattle.event.specs.declared.event.Call.the-variants as call
 use Rattle.request.specs.Request.{selectsOffset}
 use Rattle.request.specs.declared.request.Request.{Request}
-use Rattle.bounds.specs.Calls.{next, accepted, ticks, sets, countAmongBy, noneAmongBy, ticksAmong, neverSet}
+use Rattle.bounds.specs.Calls.{next, accepted, ticks, sets, ticksAmong, neverSet}
+use Rattle.bounds.specs.Calls.{countAmongBy, noneAmongBy}
 use Rattle.bounds.specs.Singly.{singlyFrom}
 use Rattle.bounds.specs.Book.{Book, emptyBook, callBook, bookFrom}
 use Rattle.bounds.specs.BookTicks.{ticksSinceSetting, TicksOfTheBook}

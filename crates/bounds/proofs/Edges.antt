@@ -1,7 +1,7 @@
 -- Each number at its edge and beyond: computed.
 use mathlib.Core.Path.{_≡_, refl}
 use mathlib.Core.Bool.{true, false}
-use Prim.Native.Nat.{ℕ, _+_, _≤_, _<_}
+use Prim.Native.Nat.{ℕ, _≤_, _<_}
 use lib.Dec.{leb, ltb}
 use borrow.Author.Tests.{leb-true, ltb-true}
 use Rattle.state.specs.Device.{deviceOf}
@@ -16,7 +16,6 @@ use Rattle.bounds.specs.Singly.{singleTicks, singlyFrom}
 use Rattle.bounds.specs.Measure.{measureOf}
 use Rattle.bounds.specs.Book.{bookFrom}
 use Rattle.event.specs.declared.event.Event.the-variants.{CatchUp}
-use Rattle.bounds.specs.Seconds.{OneMoreOrFewer}
 use Rattle.bounds.specs.Edges.{Edge, Edges}
 use Rattle.bounds.proofs.ShutOut.{not-below, not-most}
 use Rattle.bounds.proofs.Ticked.{answers-as}
@@ -28,9 +27,8 @@ below {a} {b} h n = (ltb-true a b h, not-below n)
 most : {a b c d : ℕ} → leb a b ≡ true → leb c d ≡ false → Edge (a ≤ b) (c ≤ d)
 most {a} {b} h n = (leb-true a b h, not-most n)
 
-ticks : {kind n k : ℕ} → leb (deviceOf kind .rate) (n + 1) ≡ true → leb n (deviceOf kind .rate + 1) ≡ true
-    → (OneMoreOrFewer kind k → ⊥) → Edge (OneMoreOrFewer kind n) (OneMoreOrFewer kind k)
-ticks l m beyond = (record { least = leb-true _ _ l; most = leb-true _ _ m }, beyond)
+within : {a b : ℕ} → leb a b ≡ true → a ≤ b
+within {a} {b} h = leb-true a b h
 
 pub edges : Edges
 unfolding deviceOf measureOf inRange rolledOver unitIn ticked tickRefusal tickOf ranOf catchUpOf
@@ -47,13 +45,13 @@ edges =
       forward1024 = most refl refl;
       second256 =
           record {
-            fewest = ticks refl refl (λ e. not-most refl (e .least));
-            greatest = ticks refl refl (λ e. not-most refl (e .most));
+            fewest = (record { least = within refl; most = within refl }, λ e. not-most refl (e .least));
+            greatest = (record { least = within refl; most = within refl }, λ e. not-most refl (e .most));
           };
       second1024 =
           record {
-            fewest = ticks refl refl (λ e. not-most refl (e .least));
-            greatest = ticks refl refl (λ e. not-most refl (e .most));
+            fewest = (record { least = within refl; most = within refl }, λ e. not-most refl (e .least));
+            greatest = (record { least = within refl; most = within refl }, λ e. not-most refl (e .most));
           };
       ceiling256 = (answers-as _ (CatchUp 2 true) .0 refl, λ t. not-most refl (t .most));
       ceiling1024 = (answers-as _ (CatchUp 2 true) .0 refl, λ t. not-most refl (t .most));

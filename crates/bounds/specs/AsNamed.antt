@@ -58,7 +58,8 @@ pub record AsNamed (kind : ℕ) : Type 0 where
   pub saysAndDoes : Same (λ a. a .clock) wrong.saysRefused (freshClock kind) (Call Tick)
   pub zero : Differ telling wrong.readsZero (from kind (field.seconds ≔ 5 ∷ [])) (Call Reading) 0 5000000
   pub ahead : Differ telling wrong.aheadWhileBad (freshClock kind) (Call Reading) 1 0
-  pub aheadNoLonger : Same (λ a. a) wrong.aheadWhileBad (from kind (field.status ≔ statusOk ∷ [])) (Call Reading)
+  pub aheadNoLonger :
+      Same (λ a. a) wrong.aheadWhileBad (from kind (field.status ≔ statusOk ∷ [])) (Call Reading)
   pub idle : wrong.idles (freshClock kind) (Call Tick) .clock ≡ freshClock kind
   pub counts : Same (λ a. a .count) wrong.countsOnly (freshClock kind) (CatchUp 3 false)
   pub countsOnly : wrong.countsOnly (freshClock kind) (CatchUp 3 false) .clock ≡ freshClock kind
@@ -71,7 +72,9 @@ pub record AsNamed (kind : ℕ) : Type 0 where
   pub pays : Same (λ a. a .clock .adjustment) wrong.keepsOffset (atSecondShare kind) (Call Tick)
   pub keeps : wrong.keepsOffset (atSecondShare kind) (Call Tick) .clock .offset ≡ atSecondShare kind .offset
   pub late :
-      Differ (λ a. a .clock .seconds) other.setsLate (from kind (field.left ≔ℤ pos 1 ∷ [])) (Call (set 5 0)) 6 5
+      Differ (λ a. a .clock .seconds) other.setsLate
+      (from kind (field.left ≔ℤ pos 1 ∷ []))
+      (Call (set 5 0)) 6 5
   pub lateNever :
       Same (λ a. a) other.setsLate (clockAfter kind (Call (asks (pos 1)) ∷ [])) (Call (set 5 0))
   pub drops :
@@ -81,7 +84,8 @@ pub record AsNamed (kind : ℕ) : Type 0 where
       Differ telling other.aheadAlways (from kind (field.status ≔ statusOk ∷ [])) (Call Reading) 1 0
   pub uncounted : Differ (λ a. a .clock .interval) other.countsNoRollover
       (from kind (field.micros ≔ 999999 ∷ field.updated ≔ 1 ∷ field.interval ≔ 5 ∷ [])) (Call Tick) 5 6
-  pub noUpdate : Differ (λ a. a .clock .updated) other.holdsNoUpdate (freshClock kind) (Call (asks (pos 1))) 0 1
+  pub noUpdate :
+      Differ (λ a. a .clock .updated) other.holdsNoUpdate (freshClock kind) (Call (asks (pos 1))) 0 1
   pub ceiling : Differ (λ a. a .count) other.tellsCeiling (atTheEnd kind) (CatchUp 2 true) 2 1
   pub ceilingClock : Same (λ a. a .clock) other.tellsCeiling (atTheEnd kind) (CatchUp 2 true)
   pub overruns : Differ (λ a. a .count) other.overruns (freshClock kind) (CatchUp 1 false) 2 1

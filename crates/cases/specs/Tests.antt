@@ -71,7 +71,8 @@ pub record TicksTold (kind : ℕ) : Type 0 where
   pub after : isSeen (field.micros is 0) (tickOn kind []) ≡ false
   pub rolled : isDone rollover (tickOn kind (field.micros ≔ lastMicro ∷ [])) ≡ true
   pub notRolled : isDone rollover (tickOn kind []) ≡ false
-  pub refused : isDone rollover (tickOn kind (field.seconds ≔ lastSecond ∷ field.micros ≔ lastMicro ∷ [])) ≡ false
+  pub refused :
+      isDone rollover (tickOn kind (field.seconds ≔ lastSecond ∷ field.micros ≔ lastMicro ∷ [])) ≡ false
 
 -- a stage that holds, one that does not, and a rollover that is refused
 abbrev pub holds : Stage
