@@ -1,4 +1,5 @@
--- A run over a history. Read Lines, Event, Run, then Filling; Repeated and Calls state what they come to.
+-- A run over a history. Read Lines, Event, Run, then Filling; Repeated and Calls state what they come to,
+-- WrongRuns, WrongReplays and Examples what they shut out, Limits where their numbers end.
 pub mod Lines
 pub mod Event
 pub mod Run
