@@ -16,7 +16,6 @@ use state::OffsetUnits;
 use state::PhaseParts;
 use state::PhaseUnits;
 use state::SECONDS_PER_DAY;
-use state::TIME_BAD;
 use state::TIME_DEL;
 use state::TIME_INS;
 use state::TIME_OK;
@@ -112,17 +111,11 @@ struct Leap {
     status: u8,
 }
 
-fn leap_step(status: u8, s: u32) -> Leap
+// The step of a status that may have one.
+fn stepped(status: u8, s: u32) -> Leap
     requires { ⌜ (0 < s) × (s ≤ lastSecond) ⌝ }
     ensures { λ r. ⌜ r ≡ leapOf status s ⌝ }
 {
-    // Nearly every second ends so: one test for both.
-    if (status == TIME_OK) | (status == TIME_BAD) {
-        return Leap {
-            seconds: s,
-            status: status,
-        };
-    }
     match status {
         TIME_INS => {
             if s % SECONDS_PER_DAY == 0 {
@@ -154,6 +147,21 @@ fn leap_step(status: u8, s: u32) -> Leap
             seconds: s,
             status: TIME_OK,
         },
+        _ => Leap {
+            seconds: s,
+            status: status,
+        },
+    }
+}
+
+// The codes that may step are one arm: nearly every second ends OK or BAD, which then costs one test and not
+// three.
+fn leap_step(status: u8, s: u32) -> Leap
+    requires { ⌜ (0 < s) × (s ≤ lastSecond) ⌝ }
+    ensures { λ r. ⌜ r ≡ leapOf status s ⌝ }
+{
+    match status {
+        TIME_INS | TIME_DEL | TIME_OOP => stepped(status, s),
         _ => Leap {
             seconds: s,
             status: status,
