@@ -8,7 +8,7 @@ use lib.Dec.{leb, ltb}
 use borrow.Author.Tests.{leb-false, ltb-false}
 use Rattle.state.specs.Device.{deviceOf}
 use Rattle.state.specs.State.{inRange}
-use Rattle.clock.specs.Reading.{readingOf, readingRefusal}
+use Rattle.clock.specs.Reading.{toldOf, readingRefusal}
 use Rattle.clock.specs.Rollover.{rolledOver}
 use Rattle.clock.specs.Tick.{unitIn, ticked, tickRefusal, tickOf}
 use Rattle.clock.specs.Ticks.{ranOf, catchUpOf}
@@ -29,7 +29,7 @@ not-most : {a b : ℕ} → leb a b ≡ false → a ≤ b → ⊥
 not-most {a} {b} e h = omega (arith, leb-false a b e)
 
 pub shut-out : ShutOutOfEachKind
-unfolding deviceOf measureOf inRange readingOf readingRefusal rolledOver unitIn ticked tickRefusal tickOf ranOf catchUpOf settingRefusal settingOf requestRefusal requested requestOf afterBy countAmong noneAmong singleTicks singlyFrom asEvents bookFrom
+unfolding deviceOf measureOf inRange toldOf readingRefusal rolledOver unitIn ticked tickRefusal tickOf ranOf catchUpOf settingRefusal settingOf requestRefusal requested requestOf afterBy countAmong noneAmong singleTicks singlyFrom asEvents bookFrom
 shut-out = (
   record {
     refusing = λ near. not-below refl near;

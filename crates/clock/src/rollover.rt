@@ -6,7 +6,7 @@ ghost use Rattle.state.specs.Units.{micros, offsetUnits};
 ghost use Rattle.state.specs.Device.{deviceOf};
 ghost use Rattle.state.specs.State.{within, greatestConstant, longestInterval, greatestError, greatestFrequency, inRange, lastSecond};
 ghost use Rattle.clock.specs.Rollover.{maxerrorGrown, intervalGrown, shareDivisor, share, division, rolledOver};
-ghost use Rattle.clock.specs.Inner.{greatestShare, rateFor, leapOf};
+ghost use Rattle.clock.specs.Inner.{greatestShare, incrementsFor, leapOf};
 use state::Clock;
 use state::Frequency;
 use state::MAX_ERROR;
@@ -83,21 +83,21 @@ fn divide(kind: u8, f: Frequency) -> Divided
 }
 
 // What each tick adds: the adjustment to the phase, the remainder to the leftover.
-pub(crate) struct Rate {
+pub(crate) struct Increments {
     pub(crate) adjustment: PhaseUnits,
     pub(crate) remainder: PhaseParts,
 }
 
-// The rate of a kind for a share and a frequency in force.
-pub(crate) fn rate_for(kind: u8, s: OffsetUnits, f: Frequency) -> Rate
+// Those of a kind for a share and a frequency in force.
+pub(crate) fn increments_for(kind: u8, s: OffsetUnits, f: Frequency) -> Increments
     requires { ⌜ within greatestShare (s .0) ≡ true ⌝ }
     requires { ⌜ within greatestFrequency (f .0) ≡ true ⌝ }
-    ensures { λ r. ⌜ r ≡ rateFor (deviceOf kind) (s .0) (f .0) ⌝ }
+    ensures { λ r. ⌜ r ≡ incrementsFor (deviceOf kind) (s .0) (f .0) ⌝ }
 {
     let d = divide(kind, f);
     let remainder = d.remainder;
     let k = device_constants(kind);
-    Rate {
+    Increments {
         adjustment: PhaseUnits(k.device.scale as i32 * s.0 + d.quotient.0 + k.device.base.0),
         remainder: remainder,
     }
@@ -178,9 +178,9 @@ pub(crate) fn rollover(c: Clock) -> Clock
     let maxerror = maxerror_grown(c.maxerror);
     let share = share_of(c);
     let left = OffsetUnits(c.offset.0 - share.0);
-    let rate = rate_for(c.kind, share, c.frequency);
-    let adjustment = rate.adjustment;
-    let remainder = rate.remainder;
+    let increments = increments_for(c.kind, share, c.frequency);
+    let adjustment = increments.adjustment;
+    let remainder = increments.remainder;
     let interval = interval_grown(c.updated, c.interval);
     let leap = leap_step(c.status, c.seconds + 1);
     Clock {

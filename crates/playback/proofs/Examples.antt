@@ -7,7 +7,7 @@ use Rattle.state.specs.Device.{deviceOf}
 use Rattle.state.specs.State.{inRange}
 use Rattle.clock.specs.Rollover.{rolledOver}
 use Rattle.clock.specs.Tick.{unitIn, ticked, tickRefusal, tickOf}
-use Rattle.clock.specs.Reading.{readingRefusal, readingOf}
+use Rattle.clock.specs.Reading.{readingRefusal, toldOf}
 use Rattle.request.specs.Request.{requestRefusal, requestOf}
 use Rattle.number.specs.Reading.{leadingMore, valueOf, judged, numberAt}
 use Rattle.number.specs.Sequence.{then}
@@ -26,7 +26,7 @@ prints s = replayOf s .output
 documented : prints (0x00 ∷ 0x80 ∷ 0x02 ∷ 0x03 ∷ [])
     ≡ 0x31 ∷ 0x39 ∷ 0x37 ∷ 0x30 ∷ 0x2D ∷ 0x30 ∷ 0x31 ∷ 0x2D ∷ 0x30 ∷ 0x31 ∷ 0x54 ∷ 0x30 ∷ 0x30 ∷ 0x3A ∷ 0x30 ∷ 0x30 ∷ 0x3A ∷ 0x30 ∷ 0x31 ∷ 90
     ∷ 0x20 ∷ 0x30 ∷ 0x30 ∷ 0x30 ∷ 0x30 ∷ 0x30 ∷ 0x30 ∷ 0x20 ∷ 0x34 ∷ 0x0A ∷ []
-unfolding deviceOf dateOf inRange rolledOver unitIn ticked tickRefusal tickOf readingRefusal readingOf leadingMore valueOf judged numberAt labelOf ranOf ticksOf then ticksAt argumentsAt eventAt decimalFrom decimal printLine outcomeOf printedBy printed lineOf step runAfter linesOf replayOf
+unfolding deviceOf dateOf inRange rolledOver unitIn ticked tickRefusal tickOf readingRefusal toldOf leadingMore valueOf judged numberAt labelOf ranOf ticksOf then ticksAt argumentsAt eventAt decimalFrom decimal printLine outcomeOf printedBy printed lineOf step runAfter linesOf replayOf
 documented = refl
 
 nothing-printed : prints [] ≡ []

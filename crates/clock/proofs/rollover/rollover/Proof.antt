@@ -27,8 +27,8 @@ sub-t10 c =
     let k = known (start1 share) in
     simp (share .share-of .ensures, toZ-ofZ (fits-offset _ k), toZ-ofZ (fits-share-of _ k)) (fits-rest _ k)
 
-rate-for-requires : tie.Need-rate-for-requires
-rate-for-requires c κs =
+increments-for-requires : tie.Need-increments-for-requires
+increments-for-requires c κs =
     let p = c .before .before .before .before in
     let s = start1 p in
     let k = known s in (
@@ -53,14 +53,14 @@ unfolding rolledOver
 returns c =
     let leap = c .before .before .before .before .before in
     let interval = leap .before .before in
-    let rate = interval .before .before .before in
-    let share = rate .before .before .before .before .before in
+    let increments = interval .before .before .before in
+    let share = increments .before .before .before .before .before in
     let maxerror = share .before in
     let k = known (maxerror .before) in
     simp (
       leap .leap-step .ensures,
       interval .interval-grown .ensures,
-      rate .rate-for .ensures,
+      increments .increments-for .ensures,
       share .share-of .ensures,
       maxerror .maxerror-grown .ensures,
       toZ-ofZ (fits-offset _ k),
@@ -75,7 +75,7 @@ rollover-spec =
     maxerror-grown-requires
     share-of-requires
     sub-t10
-    rate-for-requires
+    increments-for-requires
     interval-grown-requires
     add-leap-step
     leap-step-requires
