@@ -34,7 +34,8 @@ greatestCeiling = 65536
 
 -- 1 "a state field lies outside its range"; "above 65,536 is a new refusal 16, after 1"
 abbrev pub catchUpRefusal : Clock → ℕ → ℕ
-catchUpRefusal c ceiling = refuse (not (inRange c)) refusedState (refuse (ltb greatestCeiling ceiling) refusedCeiling 0)
+catchUpRefusal c ceiling =
+    refuse (not (inRange c)) refusedState (refuse (ltb greatestCeiling ceiling) refusedCeiling 0)
 
 -- "unless said, a refused call's other answers are zeros", and it hands back the clock that it got
 abbrev pub refusedCatchUp : ℕ → Clock → CaughtUp

@@ -66,9 +66,12 @@ ok c e =
       phase =
           between-parts _ _ (c .phase .0) (lit< tt) (lit< tt)
           (tested (phaseRange (c .phase .0)) (λ t. simp (t, and-false)) e);
-      offset = within-parts _ _ (c .offset .0) (tested (offsetRange (c .offset .0)) (λ t. simp (t, and-false)) e);
+      offset =
+          within-parts _ _ (c .offset .0)
+          (tested (offsetRange (c .offset .0)) (λ t. simp (t, and-false)) e);
       frequency =
-          within-parts _ _ (c .frequency .0) (tested (frequencyRange (c .frequency .0)) (λ t. simp (t, and-false)) e);
+          within-parts _ _ (c .frequency .0)
+          (tested (frequencyRange (c .frequency .0)) (λ t. simp (t, and-false)) e);
       adjustment =
           adjusted (c .kind) (c .adjustment .0)
           (bounds-parts (d .least .0) (d .most .0) (c .adjustment .0)

@@ -1,5 +1,5 @@
--- "Numbers of the refusals": the table of document 01, and the numbers that document 02 adds to it, each by a name. 0
--- stands for no refusal.
+-- "Numbers of the refusals": the table of document 01, and the numbers that document 02 adds to it, each by a
+-- name. 0 stands for no refusal.
 use Prim.Native.Nat.{ℕ}
 use mathlib.Core.Bool.{Bool, cond}
 
@@ -79,7 +79,7 @@ refusedPlace = 18
 abbrev pub refusedTable : ℕ
 refusedTable = 19
 
--- Number n where its condition holds, else what the later conditions give. Written from the lowest number to the highest, such a
--- chain is "The lowest of 1 to 9 that applies is given".
+-- Number n where its condition holds, else what the later conditions give. Written from the lowest number to the
+-- highest, such a chain is "The lowest of 1 to 9 that applies is given".
 abbrev pub refuse : Bool → ℕ → ℕ → ℕ
 refuse applies n later = cond applies n later

@@ -1,4 +1,4 @@
--- `clock::rollover::leap_step`: the step of a code that may have one; below and above these codes there is none.
+-- `clock::rollover::leap_step`: the step of a code that may have one; the codes below and above have none.
 use mathlib.Core.Path.{_≡_}
 use Prim.Native.Nat.{ℕ}
 use native.Mathlib.Omega.{arith}

@@ -20,7 +20,9 @@ same false false h k = refl
 -- the ranges in the code's order
 abbrev inParts : Clock → Bool
 inParts c =
-    firstFieldsRange c && lastFieldsRange c && fieldsOfKind (c .kind) (c .adjustment .0) (c .remainder .0) (c .leftover .0)
+    firstFieldsRange c
+    && lastFieldsRange c
+    && fieldsOfKind (c .kind) (c .adjustment .0) (c .remainder .0) (c .leftover .0)
 
 ordered : (c : Clock) → Ok c → inParts c ≡ true
 ordered c k = search (true-and, le-leb, parts-between, parts-within, parts-bounds)
