@@ -8,7 +8,7 @@ use lib.IntN.{pos, natAbs}
 use borrow.Author.Tests.{eqb-false, ltb-true}
 use Rattle.state.specs.Device.{kind256, kind1024, deviceOf}
 use Rattle.state.specs.State.{Update, inRange}
-use Rattle.clock.specs.Reading.{readingOf, readingRefusal}
+use Rattle.clock.specs.Reading.{toldOf, readingRefusal}
 use Rattle.clock.specs.Rollover.{rolledOver}
 use Rattle.clock.specs.Tick.{unitIn, ticked, tickRefusal, tickOf}
 use Rattle.clock.specs.Ticks.{ranOf, catchUpOf}
@@ -61,7 +61,7 @@ unfolding afterBy singlyFrom
 caught d c ceiling h = d c (CatchUp ceiling true ∷ []) .each [] [] (CatchUp ceiling true) refl .answered .0 h
 
 pub also-shut-out : AlsoShutOutOfEachKind
-unfolding deviceOf measureOf inRange readingOf readingRefusal rolledOver unitIn ticked tickRefusal tickOf
+unfolding deviceOf measureOf inRange toldOf readingRefusal rolledOver unitIn ticked tickRefusal tickOf
     ranOf catchUpOf settingRefusal settingOf requestRefusal requested requestOf afterBy countAmongBy
     noneAmongBy singleTicks singlyFrom asEvents bookFrom sinceFrom
 also-shut-out = (

@@ -2,7 +2,7 @@
 use mathlib.Core.Path.{refl}
 use Rattle.state.specs.Device.{deviceOf}
 use Rattle.state.specs.State.{inRange}
-use Rattle.clock.specs.Reading.{readingOf, readingRefusal}
+use Rattle.clock.specs.Reading.{toldOf, readingRefusal}
 use Rattle.clock.specs.Rollover.{rolledOver}
 use Rattle.clock.specs.Tick.{unitIn, ticked, tickRefusal, tickOf}
 use Rattle.clock.specs.Ticks.{ranOf, catchUpOf}
@@ -12,7 +12,7 @@ use Rattle.bounds.specs.Calls.{afterBy}
 use Rattle.bounds.specs.AsNamed.{EachAsNamed}
 
 pub as-named : EachAsNamed
-unfolding deviceOf inRange readingOf readingRefusal rolledOver unitIn ticked tickRefusal tickOf ranOf
+unfolding deviceOf inRange toldOf readingRefusal rolledOver unitIn ticked tickRefusal tickOf ranOf
     catchUpOf settingRefusal settingOf requestRefusal requested requestOf afterBy
 as-named = (
   record {

@@ -9,7 +9,7 @@ use Rattle.state.specs.State.{freshClock}
 use Rattle.clock.specs.Rollover.{rolledOver}
 use Rattle.clock.specs.Tick.{tickOf}
 use Rattle.clock.specs.Setting.{settingOf}
-use Rattle.clock.specs.Reading.{readingOf, readingRefusal, shown}
+use Rattle.clock.specs.Reading.{toldOf, readingRefusal, shown}
 use Rattle.state.specs.declared.state.Clock.{Clock}
 use Rattle.state.specs.declared.units.AskedMicros.{AskedMicros}
 use Rattle.state.proofs.DeviceLaws.{laws}
@@ -39,8 +39,8 @@ pub fresh-ok : (kind : ℕ) → kind ≤ 1 → Ok (freshClock kind)
 fresh-ok kind h = search (needs, h, laws kind, adjusted kind (deviceOf kind .base .0) (omega (arith, laws kind)))
 
 -- a clock in range is read
-pub read-ok : (c : Clock) → Ok c → readingOf c ≡ record { refusal = 0; reading = shown c }
-unfolding readingOf readingRefusal
+pub read-ok : (c : Clock) → Ok c → toldOf c ≡ record { refusal = 0; reading = shown c }
+unfolding toldOf readingRefusal
 read-ok c k = simp (ok-back c k)
 
 -- no call changes the kind

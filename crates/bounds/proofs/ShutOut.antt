@@ -9,7 +9,7 @@ use lib.IntN.{pos}
 use borrow.Author.Tests.{leb-false, ltb-true, ltb-false}
 use Rattle.state.specs.Device.{kind256, kind1024, deviceOf}
 use Rattle.state.specs.State.{inRange}
-use Rattle.clock.specs.Reading.{readingOf, readingRefusal}
+use Rattle.clock.specs.Reading.{toldOf, readingRefusal}
 use Rattle.clock.specs.Rollover.{rolledOver}
 use Rattle.clock.specs.Tick.{unitIn, ticked, tickRefusal, tickOf}
 use Rattle.clock.specs.Ticks.{ranOf, catchUpOf}
@@ -37,19 +37,19 @@ not-none e h = omega (arith, e, h)
 -- What the first share has moved at the second rollover, of 2,047,984 offset units in 255 or 1,023 ticks,
 -- with nothing taken off.
 kept256 : AtRollover keepsOffset kind256 (asked (asEvents (singleTicks 255))) → ⊥
-unfolding deviceOf measureOf inRange readingOf readingRefusal rolledOver unitIn ticked tickRefusal tickOf
+unfolding deviceOf measureOf inRange toldOf readingRefusal rolledOver unitIn ticked tickRefusal tickOf
     ranOf catchUpOf settingRefusal settingOf requestRefusal requested requestOf afterBy countAmongBy
     noneAmongBy singleTicks singlyFrom asEvents bookFrom
 kept256 h = not-most refl (h refl)
 
 kept1024 : AtRollover keepsOffset kind1024 (asked (asEvents (singleTicks 1023))) → ⊥
-unfolding deviceOf measureOf inRange readingOf readingRefusal rolledOver unitIn ticked tickRefusal tickOf
+unfolding deviceOf measureOf inRange toldOf readingRefusal rolledOver unitIn ticked tickRefusal tickOf
     ranOf catchUpOf settingRefusal settingOf requestRefusal requested requestOf afterBy countAmongBy
     noneAmongBy singleTicks singlyFrom asEvents bookFrom
 kept1024 h = not-most refl (h refl)
 
 pub shut-out : ShutOutOfEachKind
-unfolding deviceOf measureOf inRange readingOf readingRefusal rolledOver unitIn ticked tickRefusal tickOf
+unfolding deviceOf measureOf inRange toldOf readingRefusal rolledOver unitIn ticked tickRefusal tickOf
     ranOf catchUpOf settingRefusal settingOf requestRefusal requested requestOf afterBy countAmongBy
     noneAmongBy singleTicks singlyFrom asEvents bookFrom
 shut-out = (

@@ -14,7 +14,7 @@ use Rattle.state.specs.declared.state.Clock.{Clock}
 use Rattle.clock.specs.Rollover.{shareDivisor, division, adjustmentFor, leapSeconds, leapStatus}
 use Rattle.clock.specs.Tick.{unitReached, leftoverLeft, phaseLeft, microsGrown, moved}
 use Rattle.clock.specs.Ticks.{ended, ranOf}
-use Rattle.clock.specs.declared.rollover.Rate.{Rate}
+use Rattle.clock.specs.declared.rollover.Increments.{Increments}
 use Rattle.clock.specs.declared.rollover.Leap.{Leap}
 use Rattle.clock.specs.declared.timer.Reached.{Reached}
 use Rattle.clock.specs.declared.timer.Advance.{Advance}
@@ -26,8 +26,8 @@ abbrev pub greatestShare : ℕ
 greatestShare = greatestOffset * offsetUnitsPerMicro / shareDivisor 0
 
 -- what each tick adds, of a share and a frequency
-abbrev pub rateFor : Device → ℤ → ℤ → Rate
-rateFor d s f = record { adjustment = phaseUnits (adjustmentFor d s f); remainder = division d f .remainder }
+abbrev pub incrementsFor : Device → ℤ → ℤ → Increments
+incrementsFor d s f = record { adjustment = phaseUnits (adjustmentFor d s f); remainder = division d f .remainder }
 
 abbrev pub leapOf : ℕ → ℕ → Leap
 leapOf status s = record { seconds = leapSeconds status s; status = leapStatus status s }

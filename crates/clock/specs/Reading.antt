@@ -3,7 +3,7 @@ use Prim.Native.Nat.{ℕ}
 use mathlib.Core.Bool.{not, cond}
 use Rattle.state.specs.Units.{micros}
 use Rattle.state.specs.State.{inRange, statusBad}
-use Rattle.state.specs.Refusal.{refuse}
+use Rattle.state.specs.Refusal.{refusedState, refuse}
 use Rattle.state.specs.declared.state.Clock.{Clock}
 use Rattle.clock.specs.declared.reading.Reading.{Reading}
 use Rattle.clock.specs.declared.reading.Told.{Told}
@@ -18,8 +18,8 @@ noReading = record { seconds = 0; micros = micros 0; status = statusBad; maxerro
 
 -- 1 "a state field lies outside its range"
 unfoldable pub readingRefusal : Clock → ℕ
-readingRefusal c = refuse (not (inRange c)) 1 0
+readingRefusal c = refuse (not (inRange c)) refusedState 0
 
 -- what a reading answers
-unfoldable pub readingOf : Clock → Told
-readingOf c = record { refusal = readingRefusal c; reading = cond (inRange c) (shown c) noReading }
+unfoldable pub toldOf : Clock → Told
+toldOf c = record { refusal = readingRefusal c; reading = cond (inRange c) (shown c) noReading }

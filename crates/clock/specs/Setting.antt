@@ -6,7 +6,7 @@ use lib.IntN.{pos}
 use Rattle.state.specs.Units.{micros, offsetUnits, phaseUnits, phaseParts}
 use Rattle.state.specs.Device.{deviceOf}
 use Rattle.state.specs.State.{inRange, lastSecond, lastMicro, statusBad, tuningOf, whole, noUpdate, greatestErrors}
-use Rattle.state.specs.Refusal.{refuse}
+use Rattle.state.specs.Refusal.{refusedState, refusedTime, refuse}
 use Rattle.state.specs.declared.state.Clock.{Clock}
 use Rattle.state.specs.declared.units.AskedMicros.{AskedMicros}
 use Rattle.state.specs.declared.outcome.Outcome.{Outcome}
@@ -40,7 +40,7 @@ settable s u = leb s lastSecond && leb (u .0) lastMicro
 
 -- 1 "a state field lies outside its range", 2 "a setting outside the ranges of seconds or microseconds"
 unfoldable pub settingRefusal : Clock → ℕ → AskedMicros → ℕ
-settingRefusal c s u = refuse (not (inRange c)) 1 (refuse (not (settable s u)) 2 0)
+settingRefusal c s u = refuse (not (inRange c)) refusedState (refuse (not (settable s u)) refusedTime 0)
 
 -- what a setting answers
 unfoldable pub settingOf : Clock → ℕ → AskedMicros → Outcome

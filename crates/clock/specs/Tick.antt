@@ -8,7 +8,7 @@ use lib.Signed.{leZ, quotZ}
 use Rattle.state.specs.Units.{micros, phaseUnits, phaseParts, phaseUnitsPerMicro, microsPerSecond}
 use Rattle.state.specs.Device.{deviceOf}
 use Rattle.state.specs.State.{inRange, lastSecond, correctionOf, tuningOf, updateOf, errorsOf, whole}
-use Rattle.state.specs.Refusal.{refuse}
+use Rattle.state.specs.Refusal.{refusedState, refusedLast, refuse}
 use Rattle.state.specs.declared.units.Micros.{Micros}
 use Rattle.state.specs.declared.units.PhaseUnits.{PhaseUnits}
 use Rattle.state.specs.declared.units.PhaseParts.{PhaseParts}
@@ -77,7 +77,10 @@ ticked c = cond (rollsOver c) (rolledOver (advanced c (microsGrown c - microsPer
 
 -- 1 "a state field lies outside its range", 3 "the tick would roll over from second 4,294,967,295"
 unfoldable pub tickRefusal : Clock → ℕ
-tickRefusal c = refuse (not (inRange c)) 1 (refuse (rollsOver c && eqb (c .seconds) lastSecond) 3 0)
+tickRefusal c =
+    refuse (not (inRange c)) refusedState
+    (refuse (rollsOver c && eqb (c .seconds) lastSecond) refusedLast
+    0)
 
 -- what a tick answers
 unfoldable pub tickOf : Clock → Outcome

@@ -4,7 +4,7 @@ use mathlib.Core.Bool.{Bool, false, _&&_, cond, not}
 use Prim.Native.Nat.{ℕ, zero, suc}
 use lib.Dec.{eqb, ltb}
 use Rattle.state.specs.State.{inRange}
-use Rattle.state.specs.Refusal.{refuse}
+use Rattle.state.specs.Refusal.{refusedState, refusedCeiling, refuse}
 use Rattle.state.specs.declared.state.Clock.{Clock}
 use Rattle.state.specs.declared.outcome.Outcome.{Outcome}
 use Rattle.clock.specs.Tick.{rollsOver, tickOf}
@@ -34,16 +34,17 @@ greatestCeiling = 65536
 
 -- 1 "a state field lies outside its range"; "above 65,536 is a new refusal 16, after 1"
 abbrev pub catchUpRefusal : Clock → ℕ → ℕ
-catchUpRefusal c ceiling = refuse (not (inRange c)) 1 (refuse (ltb greatestCeiling ceiling) 16 0)
+catchUpRefusal c ceiling =
+    refuse (not (inRange c)) refusedState (refuse (ltb greatestCeiling ceiling) refusedCeiling 0)
 
 -- "unless said, a refused call's other answers are zeros", and it hands back the clock that it got
-abbrev pub refusedWith : ℕ → Clock → CaughtUp
-refusedWith k c = record { refusal = k; count = 0; «tick_refusal» = 0; clock = c }
+abbrev pub refusedCatchUp : ℕ → Clock → CaughtUp
+refusedCatchUp k c = record { refusal = k; count = 0; «tick_refusal» = 0; clock = c }
 
 -- What a catch-up answers; "the call itself is not refused" by a tick that is. "Ceiling 0 is accepted and does nothing".
 unfoldable pub catchUpOf : Clock → ℕ → Bool → CaughtUp
 catchUpOf c ceiling stop =
-    cond (eqb (catchUpRefusal c ceiling) 0) (ranOf stop ceiling c) (refusedWith (catchUpRefusal c ceiling) c)
+    cond (eqb (catchUpRefusal c ceiling) 0) (ranOf stop ceiling c) (refusedCatchUp (catchUpRefusal c ceiling) c)
 
 -- "`0 n` up to n single ticks, stopping at the first refusal, the accepted ones standing": the refusal of the first tick that is refused,
 -- or 0, and the clock after those before it. Of no tick: 1 "a state field lies outside its range" all the same.
@@ -51,4 +52,4 @@ unfoldable pub ticksOf : ℕ → Clock → Outcome
 ticksOf n c =
     cond (inRange c)
     (record { refusal = ranOf false n c .«tick_refusal»; clock = ranOf false n c .clock })
-    (record { refusal = 1; clock = c })
+    (record { refusal = refusedState; clock = c })

@@ -1,7 +1,8 @@
 ghost use mathlib.Core.Path.{_≡_};
-ghost use Rattle.clock.specs.Reading.{readingOf};
+ghost use Rattle.clock.specs.Reading.{toldOf};
 use state::Clock;
 use state::Micros;
+use state::REFUSED_STATE;
 use state::TIME_BAD;
 use state::in_range;
 
@@ -24,7 +25,7 @@ pub struct Told {
 
 // A reading of a clock, which it does not change.
 pub fn read(c: Clock) -> Told
-    ensures { λ r. ⌜ r ≡ readingOf c ⌝ }
+    ensures { λ r. ⌜ r ≡ toldOf c ⌝ }
 {
     if !in_range(c) {
         let none = Reading {
@@ -35,7 +36,7 @@ pub fn read(c: Clock) -> Told
             esterror: Micros(0),
         };
         return Told {
-            refusal: 1,
+            refusal: REFUSED_STATE,
             reading: none,
         };
     }

@@ -6,7 +6,7 @@ ghost use Rattle.state.specs.Units.{micros, offsetUnits};
 ghost use Rattle.state.specs.Device.{deviceOf};
 ghost use Rattle.state.specs.State.{within, greatestConstant, longestInterval, greatestError, greatestFrequency, inRange, lastSecond};
 ghost use Rattle.clock.specs.Rollover.{maxerrorGrown, intervalGrown, shareDivisor, share, division, rolledOver};
-ghost use Rattle.clock.specs.Inner.{greatestShare, rateFor, leapOf};
+ghost use Rattle.clock.specs.Inner.{greatestShare, incrementsFor, leapOf};
 use state::Clock;
 use state::Frequency;
 use state::MAX_ERROR;
@@ -16,7 +16,6 @@ use state::OffsetUnits;
 use state::PhaseParts;
 use state::PhaseUnits;
 use state::SECONDS_PER_DAY;
-use state::TIME_BAD;
 use state::TIME_DEL;
 use state::TIME_INS;
 use state::TIME_OK;
@@ -84,21 +83,21 @@ fn divide(kind: u8, f: Frequency) -> Divided
 }
 
 // What each tick adds: the adjustment to the phase, the remainder to the leftover.
-pub(crate) struct Rate {
+pub(crate) struct Increments {
     pub(crate) adjustment: PhaseUnits,
     pub(crate) remainder: PhaseParts,
 }
 
-// The rate of a kind for a share and a frequency in force.
-pub(crate) fn rate_for(kind: u8, s: OffsetUnits, f: Frequency) -> Rate
+// Those of a kind for a share and a frequency in force.
+pub(crate) fn increments_for(kind: u8, s: OffsetUnits, f: Frequency) -> Increments
     requires { ⌜ within greatestShare (s .0) ≡ true ⌝ }
     requires { ⌜ within greatestFrequency (f .0) ≡ true ⌝ }
-    ensures { λ r. ⌜ r ≡ rateFor (deviceOf kind) (s .0) (f .0) ⌝ }
+    ensures { λ r. ⌜ r ≡ incrementsFor (deviceOf kind) (s .0) (f .0) ⌝ }
 {
     let d = divide(kind, f);
     let remainder = d.remainder;
     let k = device_constants(kind);
-    Rate {
+    Increments {
         adjustment: PhaseUnits(k.device.scale as i32 * s.0 + d.quotient.0 + k.device.base.0),
         remainder: remainder,
     }
@@ -112,17 +111,11 @@ struct Leap {
     status: u8,
 }
 
-fn leap_step(status: u8, s: u32) -> Leap
+// The step of a status that may have one.
+fn stepped(status: u8, s: u32) -> Leap
     requires { ⌜ (0 < s) × (s ≤ lastSecond) ⌝ }
     ensures { λ r. ⌜ r ≡ leapOf status s ⌝ }
 {
-    // Nearly every second ends so: one test for both.
-    if (status == TIME_OK) | (status == TIME_BAD) {
-        return Leap {
-            seconds: s,
-            status: status,
-        };
-    }
     match status {
         TIME_INS => {
             if s % SECONDS_PER_DAY == 0 {
@@ -161,6 +154,21 @@ fn leap_step(status: u8, s: u32) -> Leap
     }
 }
 
+// The codes that may step are one arm: nearly every second ends OK or BAD, which then costs one test and not
+// three.
+fn leap_step(status: u8, s: u32) -> Leap
+    requires { ⌜ (0 < s) × (s ≤ lastSecond) ⌝ }
+    ensures { λ r. ⌜ r ≡ leapOf status s ⌝ }
+{
+    match status {
+        TIME_INS | TIME_DEL | TIME_OOP => stepped(status, s),
+        _ => Leap {
+            seconds: s,
+            status: status,
+        },
+    }
+}
+
 // A rollover: second_overflow() of RFC 1589.
 pub(crate) fn rollover(c: Clock) -> Clock
     requires { ⌜ inRange c ≡ true ⌝ }
@@ -170,9 +178,9 @@ pub(crate) fn rollover(c: Clock) -> Clock
     let maxerror = maxerror_grown(c.maxerror);
     let share = share_of(c);
     let left = OffsetUnits(c.offset.0 - share.0);
-    let rate = rate_for(c.kind, share, c.frequency);
-    let adjustment = rate.adjustment;
-    let remainder = rate.remainder;
+    let increments = increments_for(c.kind, share, c.frequency);
+    let adjustment = increments.adjustment;
+    let remainder = increments.remainder;
     let interval = interval_grown(c.updated, c.interval);
     let leap = leap_step(c.status, c.seconds + 1);
     Clock {

@@ -14,6 +14,7 @@ use crate::timer::moved_to;
 use state::Clock;
 use state::LAST_SECOND;
 use state::MICROS_PER_SECOND;
+use state::REFUSED_LAST;
 
 // The answer of many ticks: refusal 0 where the call was accepted, else its number in the table of refusals; how many ticks were
 // accepted; the refusal of the tick that ended them, or 0; and the clock after the accepted ones.
@@ -56,7 +57,7 @@ fn last_turn(c: Clock, a: Advance, j: u64) -> Turn
     if a.micros.0 < MICROS_PER_SECOND {
         return turn_within(c, a, j, 0);
     }
-    turn_within(c, jump(c, j - 1), j - 1, 3)
+    turn_within(c, jump(c, j - 1), j - 1, REFUSED_LAST)
 }
 
 // The first of up to `most` ticks, none after one that rolls over. The last second is seen before the ticks are made: the clock as it was need not

@@ -1,6 +1,6 @@
 ghost use mathlib.Core.Path.{_≡_};
 ghost use Rattle.clock.specs.Setting.{settingOf};
-use crate::rollover::rate_for;
+use crate::rollover::increments_for;
 use state::AskedMicros;
 use state::Clock;
 use state::LAST_MICRO;
@@ -11,6 +11,8 @@ use state::OffsetUnits;
 use state::Outcome;
 use state::PhaseParts;
 use state::PhaseUnits;
+use state::REFUSED_STATE;
+use state::REFUSED_TIME;
 use state::TIME_BAD;
 use state::in_range;
 
@@ -20,21 +22,21 @@ pub fn set(c: Clock, seconds: u64, micros: AskedMicros) -> Outcome
 {
     if !in_range(c) {
         return Outcome {
-            refusal: 1,
+            refusal: REFUSED_STATE,
             clock: c,
         };
     }
     if !((seconds <= LAST_SECOND as u64) & (micros.0 <= LAST_MICRO as u64)) {
         return Outcome {
-            refusal: 2,
+            refusal: REFUSED_TIME,
             clock: c,
         };
     }
     let none = OffsetUnits(0);
     let us = Micros(micros.0 as u32);
-    let rate = rate_for(c.kind, none, c.frequency);
-    let adjustment = rate.adjustment;
-    let remainder = rate.remainder;
+    let increments = increments_for(c.kind, none, c.frequency);
+    let adjustment = increments.adjustment;
+    let remainder = increments.remainder;
     let next = Clock {
         seconds: seconds as u32,
         micros: us,

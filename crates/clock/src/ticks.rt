@@ -1,18 +1,20 @@
 // Many ticks in one call.
 ghost use mathlib.Core.Path.{_≡_};
 ghost use Prim.Native.Nat.{_≤_};
-ghost use Rattle.clock.specs.Ticks.{catchUpOf, greatestCeiling, refusedWith, ticksOf};
+ghost use Rattle.clock.specs.Ticks.{catchUpOf, greatestCeiling, refusedCatchUp, ticksOf};
 use crate::run::CaughtUp;
 use crate::run::run;
 use state::Clock;
 use state::Outcome;
+use state::REFUSED_CEILING;
+use state::REFUSED_STATE;
 use state::in_range;
 
 // The most ticks that a catch-up may be asked for.
 pub const MAX_CEILING: u64 = 65536;
 
 fn refused(c: Clock, refusal: u8) -> CaughtUp
-    ensures { λ r. ⌜ r ≡ refusedWith refusal c ⌝ }
+    ensures { λ r. ⌜ r ≡ refusedCatchUp refusal c ⌝ }
 {
     CaughtUp {
         refusal: refusal,
@@ -30,10 +32,10 @@ pub fn catch_up(c: Clock, ceiling: u64, stop: bool) -> CaughtUp
     ensures { λ _. do ⌜ (← ⟦MAX_CEILING⟧ .entry) ≡ greatestCeiling ⌝ }
 {
     if !in_range(c) {
-        return refused(c, 1);
+        return refused(c, REFUSED_STATE);
     }
     if MAX_CEILING < ceiling {
-        return refused(c, 16);
+        return refused(c, REFUSED_CEILING);
     }
     run(c, ceiling, stop)
 }
@@ -45,7 +47,7 @@ pub fn run_ticks(c: Clock, n: u64) -> Outcome
 {
     if !in_range(c) {
         return Outcome {
-            refusal: 1,
+            refusal: REFUSED_STATE,
             clock: c,
         };
     }

@@ -14,6 +14,8 @@ use state::Outcome;
 use state::PHASE_PER_MICRO;
 use state::PhaseParts;
 use state::PhaseUnits;
+use state::REFUSED_LAST;
+use state::REFUSED_STATE;
 use state::device_constants;
 use state::in_range;
 
@@ -96,7 +98,7 @@ fn overflow(c: Clock, a: Advance) -> Outcome
 {
     if c.seconds == LAST_SECOND {
         return Outcome {
-            refusal: 3,
+            refusal: REFUSED_LAST,
             clock: c,
         };
     }
@@ -113,7 +115,7 @@ pub fn tick(c: Clock) -> Outcome
 {
     if !in_range(c) {
         return Outcome {
-            refusal: 1,
+            refusal: REFUSED_STATE,
             clock: c,
         };
     }

@@ -4,7 +4,7 @@ use mathlib.Core.Bool.{Bool, true, false, _&&_, cond, true≢false}
 use Prim.Native.Nat.{ℕ, zero, suc}
 use lib.Dec.{eqb}
 use Rattle.clock.specs.Tick.{rollsOver, tickOf}
-use Rattle.clock.specs.Ticks.{catchUpOf, catchUpRefusal, ended, oneMore, ranOf, refusedWith}
+use Rattle.clock.specs.Ticks.{catchUpOf, catchUpRefusal, ended, oneMore, ranOf, refusedCatchUp}
 use Rattle.clock.specs.Setting.{settingOf}
 use Rattle.state.specs.declared.state.Clock.{Clock}
 use Rattle.clock.specs.declared.run.CaughtUp.{CaughtUp}
@@ -33,7 +33,7 @@ ran-accepted stop (suc n) c =
     refl (ran-accepted stop n (tickOf c .clock)) refl
 
 by-refusal : (accepted : Bool) (k : ℕ) (c : Clock) (r : CaughtUp) → r .refusal ≡ 0
-    → eqb (cond accepted r (refusedWith k c) .refusal) 0 ≡ false → cond accepted r (refusedWith k c) .clock ≡ c
+    → eqb (cond accepted r (refusedCatchUp k c) .refusal) 0 ≡ false → cond accepted r (refusedCatchUp k c) .clock ≡ c
 by-refusal true k c r p refused = absurd (true≢false (rw p at refused))
 by-refusal false k c r p refused = refl
 

@@ -2,7 +2,7 @@
 use Rattle.clock.specs.Tick.{tickOf}
 use Rattle.clock.specs.Ticks.{catchUpOf}
 use Rattle.clock.specs.Setting.{settingOf}
-use Rattle.clock.specs.Reading.{readingOf, noReading}
+use Rattle.clock.specs.Reading.{toldOf, noReading}
 use Rattle.state.specs.declared.state.Clock.{Clock}
 use Rattle.state.specs.declared.outcome.Outcome.{Outcome}
 use Rattle.clock.specs.declared.run.CaughtUp.{CaughtUp}
@@ -31,7 +31,7 @@ abbrev pub answerOf : Clock → Call → Stepped
 answerOf c Tick = stepWith (tickOf c)
 answerOf c (Setting s u) = stepWith (settingOf c s u)
 answerOf c (Request r) = stepWith (requestOf c r)
-answerOf c Reading = stepTold c (readingOf c)
+answerOf c Reading = stepTold c (toldOf c)
 
 -- An event: a single call, or a catch-up.
 abbrev pub stepOf : Clock → Event → Stepped

@@ -1,7 +1,7 @@
 // The calls by value: each is the call of its crate, for C.
 ghost use mathlib.Core.Path.{_≡_};
 ghost use Rattle.state.specs.Fresh.{freshOf};
-ghost use Rattle.clock.specs.Reading.{readingOf};
+ghost use Rattle.clock.specs.Reading.{toldOf};
 ghost use Rattle.clock.specs.Setting.{settingOf};
 ghost use Rattle.state.specs.State.{inRange};
 ghost use Rattle.clock.specs.Tick.{tickOf};
@@ -69,7 +69,7 @@ pub extern "C" fn heukelvos_adjust(c: Clock, r: Request) -> Outcome
 
 #[no_mangle]
 pub extern "C" fn heukelvos_read(c: Clock) -> Told
-    ensures { λ r. ⌜ r ≡ readingOf c ⌝ }
+    ensures { λ r. ⌜ r ≡ toldOf c ⌝ }
 {
     clock::read(c)
 }

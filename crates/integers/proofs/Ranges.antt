@@ -17,6 +17,11 @@ pub true-and : {a b : Bool} → a ≡ true → b ≡ true → a && b ≡ true
 true-and {a = true} e f = f
 true-and {a = false} e f = absurd (false≢true e)
 
+-- a test without which the whole does not hold, where the whole holds
+pub tested : (b : Bool) {whole : Bool} → (b ≡ false → whole ≡ false) → whole ≡ true → b ≡ true
+tested true h e = refl
+tested false h e = absurd (false≢true (sym (h refl) ∙ e))
+
 -- 0, of the numbers up to m
 pub zero-only : (m n : ℕ) → leb n 0 ≡ leb n m && eqb n 0
 zero-only m zero = sym (simp (le-leb 0 m (omega arith)))

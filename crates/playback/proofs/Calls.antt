@@ -8,7 +8,7 @@ use lib.Dec.{leb, ltb, eqb}
 use lib.ListN.{length}
 use borrow.Author.Tests.{le-leb, lt-leb, le-ltb, leb-true, leb-false, ltb-true, ltb-false}
 use Rattle.clock.specs.Tick.{tickOf}
-use Rattle.clock.specs.Reading.{readingOf, shown}
+use Rattle.clock.specs.Reading.{toldOf, shown}
 use Rattle.state.specs.Device.{kind256}
 use Rattle.state.specs.State.{inRange, freshClock}
 use Rattle.state.specs.declared.state.Clock.{Clock}
@@ -159,7 +159,7 @@ module _ (s : List ℕ) (fits : length s ≤ longestHistory) where
 
 -- an accepted reading tells what the clock shows, and that is printed
 reading-shown : (c : Clock) → stepOf c (single Reading) .refusal ≡ 0 → stepOf c (single Reading) .reading ≡ shown c
-unfolding readingOf
+unfolding toldOf
 reading-shown c z = simp (reading-sound c Reading refl z)
 
 print-shown : (c : Clock) → stepOf c (single Reading) .refusal ≡ 0 → lineOf c (Call Reading) ≡ printLine c

@@ -5,7 +5,7 @@ use Rattle.state.specs.Device.{deviceOf}
 use Rattle.state.specs.State.{inRange}
 use Rattle.clock.specs.Rollover.{rolledOver}
 use Rattle.clock.specs.Tick.{unitIn, ticked, tickRefusal, tickOf}
-use Rattle.clock.specs.Reading.{readingRefusal, readingOf}
+use Rattle.clock.specs.Reading.{readingRefusal, toldOf}
 use Rattle.request.specs.Request.{requestRefusal, requestOf}
 use Rattle.number.specs.Reading.{leadingMore, valueOf, judged, numberAt}
 use Rattle.number.specs.Sequence.{then}
@@ -21,7 +21,7 @@ use Rattle.playback.proofs.Apart.{length-apart}
 
 pub examples : Examples outputOf
 unfolding deviceOf dateOf inRange rolledOver unitIn ticked tickRefusal tickOf ranOf ticksOf
-    readingRefusal readingOf requestRefusal requestOf labelOf
+    readingRefusal toldOf requestRefusal requestOf labelOf
     leadingMore valueOf judged numberAt then unmapped fieldAt ticksAt requestAt argumentsAt eventAt
     decimalFrom decimal refusedLine logLine printLine outcomeOf printedBy printed lineOf
     step runAfter linesOf replayOf

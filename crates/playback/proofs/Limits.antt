@@ -8,7 +8,7 @@ use borrow.Author.Tests.{lt-leb, lt-ltb, le-ltb}
 use Rattle.calendar.specs.Calendar.{dateOf}
 use Rattle.state.specs.Device.{deviceOf}
 use Rattle.state.specs.State.{inRange}
-use Rattle.clock.specs.Reading.{readingRefusal, readingOf}
+use Rattle.clock.specs.Reading.{readingRefusal, toldOf}
 use Rattle.number.specs.Reading.{leadingMore, valueOf, judged, numberAt}
 use Rattle.number.specs.Sequence.{then}
 use Rattle.label.specs.Label.{labelOf}
@@ -39,7 +39,7 @@ print-first n = simp (lt-leb (suc (length (prints n))) 0 (omega arith))
 -- a history of prints that is run, and one that is too long
 module _ (n : ℕ) (size : length (prints (suc n)) ≡ suc n) where
   run-first : suc n ≤ longestHistory → step (prints (suc n)) startOfRun .line ≡ itsLine
-  unfolding deviceOf inRange readingRefusal readingOf outcomeOf printedBy printed lineOf
+  unfolding deviceOf inRange readingRefusal toldOf outcomeOf printedBy printed lineOf
   run-first h =
       ap (λ (a : Advanced). a .line)
       (step-found (prints (suc n)) startOfRun refl (omega arith) (omega arith) (print-first n))
@@ -83,7 +83,7 @@ two-calls =
     (more {buf = blank 30} (omega arith) second-call none)
 
 end-at-its-edge : EndAtItsEdge
-unfolding deviceOf dateOf inRange readingRefusal readingOf leadingMore valueOf judged numberAt then
+unfolding deviceOf dateOf inRange readingRefusal toldOf leadingMore valueOf judged numberAt then
     argumentsAt eventAt labelOf decimalFrom decimal printLine outcomeOf printedBy printed lineOf step runAfter linesOf
 end-at-its-edge =
     record {

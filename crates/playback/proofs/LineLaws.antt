@@ -8,7 +8,7 @@ use lib.Dec.{eqb}
 use lib.ListN.{length, drop, length-append}
 use borrow.Author.Tests.{eq-eqb, le-ltb}
 use Rattle.state.specs.State.{inRange}
-use Rattle.clock.specs.Reading.{readingOf, readingRefusal}
+use Rattle.clock.specs.Reading.{toldOf, readingRefusal}
 use Rattle.state.specs.Refusal.{refuse}
 use Rattle.state.specs.declared.state.Clock.{Clock}
 use Rattle.state.proofs.Ok.{ok}
@@ -75,7 +75,7 @@ accepted true e = refl
 accepted false e = absurd (omega (arith, e))
 
 pub reading-sound : (c : Clock) (e : call.Call) → isReading e ≡ true → answerOf c e .refusal ≡ 0 → inRange c ≡ true
-unfolding readingOf readingRefusal
+unfolding toldOf readingRefusal
 reading-sound c Tick t z = absurd (let w : _≡_ {A = ℕ} 0 1 = cc in omega arith)
 reading-sound c (Setting s u) t z = absurd (let w : _≡_ {A = ℕ} 0 1 = cc in omega arith)
 reading-sound c (Request r) t z = absurd (let w : _≡_ {A = ℕ} 0 1 = cc in omega arith)

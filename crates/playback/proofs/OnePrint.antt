@@ -5,7 +5,7 @@ use native.Mathlib.Omega.{arith}
 use Rattle.calendar.specs.Calendar.{dateOf}
 use Rattle.state.specs.Device.{deviceOf}
 use Rattle.state.specs.State.{inRange}
-use Rattle.clock.specs.Reading.{readingRefusal, readingOf}
+use Rattle.clock.specs.Reading.{readingRefusal, toldOf}
 use Rattle.number.specs.Reading.{leadingMore, valueOf, judged, numberAt}
 use Rattle.number.specs.Sequence.{then}
 use Rattle.label.specs.Label.{labelOf}
@@ -18,7 +18,7 @@ use Rattle.playback.specs.WrongRuns.{onePrint, itsLine, afterPrint, atEn
 
 -- the first call writes the line, and the second finds the end
 pub first-call : Fills onePrint startOfRun (blank 30) itsLine (answer 0 afterPrint 30)
-unfolding deviceOf dateOf inRange readingRefusal readingOf leadingMore valueOf judged numberAt then
+unfolding deviceOf dateOf inRange readingRefusal toldOf leadingMore valueOf judged numberAt then
     argumentsAt eventAt labelOf decimalFrom decimal printLine outcomeOf printedBy printed lineOf step runAfter linesOf
 first-call =
     record {

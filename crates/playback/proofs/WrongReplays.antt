@@ -11,7 +11,7 @@ use Rattle.state.specs.State.{inRange}
 use Rattle.state.specs.declared.state.Clock.{Clock}
 use Rattle.clock.specs.Rollover.{rolledOver}
 use Rattle.clock.specs.Tick.{unitIn, ticked, tickRefusal, tickOf}
-use Rattle.clock.specs.Reading.{readingRefusal, readingOf}
+use Rattle.clock.specs.Reading.{readingRefusal, toldOf}
 use Rattle.clock.specs.Ticks.{ranOf, ticksOf}
 use Rattle.clock.specs.declared.reading.Reading as shows
 use Rattle.number.specs.Reading.{leadingMore, valueOf, judged, numberAt}
@@ -44,7 +44,7 @@ print-at x going place = record { fits = omega arith; going = going; next = 3; p
 
 pub wrong-replays : WrongReplays
 unfolding deviceOf measureOf dateOf inRange rolledOver unitIn ticked tickRefusal tickOf readingRefusal
-    readingOf ranOf ticksOf leadingMore valueOf judged numberAt then ticksAt argumentsAt eventAt labelOf
+    toldOf ranOf ticksOf leadingMore valueOf judged numberAt then ticksAt argumentsAt eventAt labelOf
     decimalFrom decimal printLine outcomeOf step runAfter afterBy countAmong noneAmong singleTicks singlyFrom
     asEvents callsFrom callsOfFirst
 wrong-replays =

@@ -10,7 +10,7 @@ use lib.ListN.{length}
 use Rattle.calendar.specs.Calendar.{dateOf}
 use Rattle.state.specs.Device.{deviceOf}
 use Rattle.state.specs.State.{inRange}
-use Rattle.clock.specs.Reading.{readingRefusal, readingOf}
+use Rattle.clock.specs.Reading.{readingRefusal, toldOf}
 use Rattle.number.specs.Reading.{leadingMore, valueOf, judged, numberAt}
 use Rattle.number.specs.Sequence.{then}
 use Rattle.label.specs.Label.{labelOf}
@@ -34,14 +34,14 @@ place-apart e h = not-same e (ap (λ (r : Filling). r .run .place) h)
 
 by-silent : (f : Fills onePrint startOfRun (blank 60) (blank 60) (answer 0 atEnd 0)) (k : ℕ)
     → f .steps ≡ k → ⊥
-unfolding deviceOf dateOf inRange readingRefusal readingOf leadingMore valueOf judged numberAt then
+unfolding deviceOf dateOf inRange readingRefusal toldOf leadingMore valueOf judged numberAt then
     argumentsAt eventAt labelOf decimalFrom decimal printLine outcomeOf printedBy printed lineOf step runAfter
     linesOf
 by-silent f zero e = ended-apart refl refl (rw e at (f .stands))
 by-silent f (suc k) e = byte-apart 0 refl (rw e at (f .written))
 
 pub wrong-fills : WrongFills
-unfolding deviceOf dateOf inRange readingRefusal readingOf leadingMore valueOf judged numberAt then
+unfolding deviceOf dateOf inRange readingRefusal toldOf leadingMore valueOf judged numberAt then
     argumentsAt eventAt labelOf decimalFrom decimal printLine outcomeOf printedBy printed lineOf step runAfter
     linesOf
 wrong-fills =
@@ -65,7 +65,7 @@ kind-apart : {a b : Played} → eqb (a .clock .kind) (b .clock .kind) ≡ false 
 kind-apart e h = not-same e (ap (λ (p : Played). p .clock .kind) h)
 
 pub wrong-repeats : WrongRepeats
-unfolding deviceOf dateOf inRange readingRefusal readingOf leadingMore valueOf judged numberAt then
+unfolding deviceOf dateOf inRange readingRefusal toldOf leadingMore valueOf judged numberAt then
     argumentsAt eventAt labelOf decimalFrom decimal printLine outcomeOf printedBy printed lineOf step runAfter
     linesOf replayOf
 wrong-repeats =

@@ -6,7 +6,7 @@ use lib.IntN.{ℤ, pos, negℤ, _+ℤ_, _*ℤ_}
 use lib.Signed.{quotZ, ltZ}
 use Rattle.state.specs.Units.{micros, offsetUnits, frequencyUnits, offsetUnitsPerMicro}
 use Rattle.state.specs.State.{inRange, within, strictlyWithin, greatestOffset, greatestFrequency, greatestConstant, greatestError, statusOk, statusBad, timeOf, whole}
-use Rattle.state.specs.Refusal.{refuse}
+use Rattle.state.specs.Refusal.{refusedState, refusedMode, refusedOffset, refusedFrequency, refusedError, refusedStatus, refusedConstant, refusedSoon, refuse}
 use Rattle.clock.specs.Refusal.{answer}
 use Rattle.state.specs.declared.state.Clock.{Clock}
 use Rattle.state.specs.declared.units.Micros.{Micros}
@@ -85,14 +85,14 @@ offsetTooSoon c r = selectsOffset r && eqb (c .updated) 1 && ltb (c .interval) s
 -- "The lowest of 1 to 9 that applies is given"; "Unselected fields are not examined." Document 02: 17 is "checked after 9".
 unfoldable pub requestRefusal : Clock → Request → ℕ
 requestRefusal c r =
-    refuse (not (inRange c)) 1
-    (refuse (modeAbove r) 4
-    (refuse (offsetOutside r) 5
-    (refuse (frequencyOutside r) 6
-    (refuse (errorAbove r) 7
-    (refuse (statusAbove r) 8
-    (refuse (constantAbove r) 9
-    (refuse (offsetTooSoon c r) 17
+    refuse (not (inRange c)) refusedState
+    (refuse (modeAbove r) refusedMode
+    (refuse (offsetOutside r) refusedOffset
+    (refuse (frequencyOutside r) refusedFrequency
+    (refuse (errorAbove r) refusedError
+    (refuse (statusAbove r) refusedStatus
+    (refuse (constantAbove r) refusedConstant
+    (refuse (offsetTooSoon c r) refusedSoon
     0)))))))
 
 -- "Effects in the order frequency, errors, status, time constant, offset." Each of them is a definition of its own.

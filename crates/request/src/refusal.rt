@@ -18,6 +18,14 @@ use crate::request::ADJ_TIMECONST;
 use crate::request::MIN_INTERVAL;
 use crate::request::Request;
 use clock::Clock;
+use clock::REFUSED_CONSTANT;
+use clock::REFUSED_ERROR;
+use clock::REFUSED_FREQUENCY;
+use clock::REFUSED_MODE;
+use clock::REFUSED_OFFSET;
+use clock::REFUSED_SOON;
+use clock::REFUSED_STATE;
+use clock::REFUSED_STATUS;
 use clock::in_range;
 
 pub(crate) fn is_set(mode: u64, bit: u64) -> bool
@@ -80,31 +88,31 @@ pub(crate) fn refusal_of(c: Clock, r: Request) -> u8
     ensures { λ n. ⌜ n ≡ requestRefusal c r ⌝ }
 {
     if !in_range(c) {
-        return 1;
+        return REFUSED_STATE;
     }
     if MAX_MODE < r.mode {
-        return 4;
+        return REFUSED_MODE;
     }
     if offset_outside(r) {
-        return 5;
+        return REFUSED_OFFSET;
     }
     if frequency_outside(r) {
-        return 6;
+        return REFUSED_FREQUENCY;
     }
     if maxerror_above(r) {
-        return 7;
+        return REFUSED_ERROR;
     }
     if esterror_above(r) {
-        return 7;
+        return REFUSED_ERROR;
     }
     if status_above(r) {
-        return 8;
+        return REFUSED_STATUS;
     }
     if constant_above(r) {
-        return 9;
+        return REFUSED_CONSTANT;
     }
     if offset_too_soon(c, r) {
-        return 17;
+        return REFUSED_SOON;
     }
     0
 }

@@ -1,15 +1,15 @@
 -- What `inRange` says, as bounds that `omega` reads, and back.
 use mathlib.Core.Path.{_≡_}
-use mathlib.Core.Bool.{true, _||_}
+use mathlib.Core.Bool.{true, _||_, and-false}
 use Prim.Native.Nat.{ℕ, _+_, _≤_, _<_}
 use native.Mathlib.Omega.{arith}
 use lib.Dec.{eqb, lit<}
 use lib.IntN.{ℤ}
 use borrow.Author.Tests.{leb-true, le-leb}
 use Rattle.integers.proofs.Parts.{posPart, negPart, one-part}
-use Rattle.integers.proofs.Ranges.{and-true, true-and, within-parts, parts-within, between-parts, parts-between, bounds-parts, parts-bounds}
-use Rattle.state.specs.Device.{deviceOf}
-use Rattle.state.specs.State.{partsRange, inRange}
+use Rattle.integers.proofs.Ranges.{tested, true-and, within-parts, parts-within, between-parts, parts-between, bounds-parts, parts-bounds}
+use Rattle.state.specs.Device.{kindRange, deviceOf}
+use Rattle.state.specs.State.{secondRange, microsRange, phaseRange, offsetRange, frequencyRange, adjustmentRange, constantRange, flagRange, intervalRange, zeroUnlessFlag, errorRange, statusRange, partsRange, inRange}
 use Rattle.state.specs.declared.device.Device.{Device}
 use Rattle.state.specs.declared.state.Clock.{Clock}
 use Rattle.state.proofs.DeviceLaws.{Laws, laws, divisor-pos}
@@ -54,41 +54,41 @@ pub record Ok (c : Clock) : Type 0 where
   pub leftover : Parts (deviceOf (c .kind)) (c .leftover .0)
   pub device : Laws (deviceOf (c .kind))
 
+-- each bound by its own test: without it the clock would not be in range
 pub ok : (c : Clock) → inRange c ≡ true → Ok c
 unfolding inRange
 ok c e =
-    let a12 = and-true _ _ e in
-    let a11 = and-true _ _ (a12 .0) in
-    let a10 = and-true _ _ (a11 .0) in
-    let a9 = and-true _ _ (a10 .0) in
-    let a8 = and-true _ _ (a9 .0) in
-    let a7 = and-true _ _ (a8 .0) in
-    let a6 = and-true _ _ (a7 .0) in
-    let a5 = and-true _ _ (a6 .0) in
-    let a4 = and-true _ _ (a5 .0) in
-    let a3 = and-true _ _ (a4 .0) in
-    let a2 = and-true _ _ (a3 .0) in
-    let a1 = and-true _ _ (a2 .0) in
-    let a0 = and-true _ _ (a1 .0) in
-    let u = and-true _ _ (a7 .1) in
-    let v = and-true _ _ (u .0) in
+    let d = deviceOf (c .kind) in
     record {
-      kind = leb-true _ _ (a0 .0);
-      seconds = leb-true _ _ (a0 .1);
-      micros = leb-true _ _ (a1 .1);
-      phase = between-parts _ _ (c .phase .0) (lit< tt) (lit< tt) (a2 .1);
-      offset = within-parts _ _ (c .offset .0) (a3 .1);
-      frequency = within-parts _ _ (c .frequency .0) (a4 .1);
-      adjustment = adjusted (c .kind) (c .adjustment .0) (bounds-parts (deviceOf (c .kind) .least .0) (deviceOf (c .kind) .most .0) (c .adjustment .0) (a5 .1));
-      constant = leb-true _ _ (a6 .1);
-      updated = leb-true _ _ (v .0);
-      interval = leb-true _ _ (v .1);
-      update = u .1;
-      maxerror = leb-true _ _ (a8 .1);
-      esterror = leb-true _ _ (a9 .1);
-      status = leb-true _ _ (a10 .1);
-      remainder = parts-of (c .kind) (c .remainder .0) (a11 .1);
-      leftover = parts-of (c .kind) (c .leftover .0) (a12 .1);
+      kind = leb-true _ _ (tested (kindRange (c .kind)) (λ t. simp t) e);
+      seconds = leb-true _ _ (tested (secondRange (c .seconds)) (λ t. simp (t, and-false)) e);
+      micros = leb-true _ _ (tested (microsRange (c .micros .0)) (λ t. simp (t, and-false)) e);
+      phase =
+          between-parts _ _ (c .phase .0) (lit< tt) (lit< tt)
+          (tested (phaseRange (c .phase .0)) (λ t. simp (t, and-false)) e);
+      offset =
+          within-parts _ _ (c .offset .0)
+          (tested (offsetRange (c .offset .0)) (λ t. simp (t, and-false)) e);
+      frequency =
+          within-parts _ _ (c .frequency .0)
+          (tested (frequencyRange (c .frequency .0)) (λ t. simp (t, and-false)) e);
+      adjustment =
+          adjusted (c .kind) (c .adjustment .0)
+          (bounds-parts (d .least .0) (d .most .0) (c .adjustment .0)
+          (tested (adjustmentRange (deviceOf (c .kind)) (c .adjustment .0)) (λ t. simp (t, and-false)) e));
+      constant = leb-true _ _ (tested (constantRange (c .constant)) (λ t. simp (t, and-false)) e);
+      updated = leb-true _ _ (tested (flagRange (c .updated)) (λ t. simp (t, and-false)) e);
+      interval = leb-true _ _ (tested (intervalRange (c .interval)) (λ t. simp (t, and-false)) e);
+      update = tested (zeroUnlessFlag (c .updated) (c .interval)) (λ t. simp (t, and-false)) e;
+      maxerror = leb-true _ _ (tested (errorRange (c .maxerror .0)) (λ t. simp (t, and-false)) e);
+      esterror = leb-true _ _ (tested (errorRange (c .esterror .0)) (λ t. simp (t, and-false)) e);
+      status = leb-true _ _ (tested (statusRange (c .status)) (λ t. simp (t, and-false)) e);
+      remainder =
+          parts-of (c .kind) (c .remainder .0)
+          (tested (partsRange (deviceOf (c .kind)) (c .remainder .0)) (λ t. simp (t, and-false)) e);
+      leftover =
+          parts-of (c .kind) (c .leftover .0)
+          (tested (partsRange (deviceOf (c .kind)) (c .leftover .0)) (λ t. simp (t, and-false)) e);
       device = laws (c .kind);
     }
 

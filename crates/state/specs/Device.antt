@@ -4,7 +4,7 @@ use mathlib.Core.Bool.{Bool, not, cond}
 use lib.Dec.{leb, eqb}
 use lib.IntN.{pos, negℤ}
 use Rattle.state.specs.Units.{micros, phaseUnits}
-use Rattle.state.specs.Refusal.{refuse}
+use Rattle.state.specs.Refusal.{refusedState, refuse}
 use Rattle.state.specs.declared.device.Device.{Device}
 use Rattle.state.specs.declared.device.Constants.{Constants}
 
@@ -50,4 +50,4 @@ deviceOf kind = cond (eqb kind kind1024) recorder1024 recorder256
 
 -- what is told of a kind's constants; of a number that is no kind refusal 1, as of a clock that carries one, and the constants of kind 0
 abbrev pub constantsOf : ℕ → Constants
-constantsOf kind = record { refusal = refuse (not (kindRange kind)) 1 0; device = deviceOf kind }
+constantsOf kind = record { refusal = refuse (not (kindRange kind)) refusedState 0; device = deviceOf kind }

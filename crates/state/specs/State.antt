@@ -134,7 +134,7 @@ inRange c =
 -- The fields in groups, by what moves them, so that a rule names the groups that it moves and hands on the others whole.
 
 -- moved by ticks and settings
-pub record Time : Type 0 where
+pub record Moment : Type 0 where
   pub seconds : ℕ
   pub micros : Micros
   pub phase : PhaseUnits
@@ -163,14 +163,14 @@ pub record Errors : Type 0 where
 -- the kind of the device, moved by nothing, is beside them
 pub record Groups : Type 0 where
   pub kind : ℕ
-  pub time : Time
+  pub time : Moment
   pub correction : Correction
   pub tuning : Tuning
   pub update : Update
   pub errors : Errors
   pub status : ℕ
 
-abbrev pub timeOf : Clock → Time
+abbrev pub timeOf : Clock → Moment
 timeOf c = record { seconds = c .seconds; micros = c .micros; phase = c .phase; leftover = c .leftover }
 
 abbrev pub correctionOf : Clock → Correction

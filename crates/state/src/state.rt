@@ -20,6 +20,7 @@ use crate::limits::PHASE_LOWER_END;
 use crate::limits::PHASE_UPPER_END;
 use crate::limits::TIME_BAD;
 use crate::outcome::Outcome;
+use crate::refusals::REFUSED_STATE;
 use crate::units::Frequency;
 use crate::units::Micros;
 use crate::units::OffsetUnits;
@@ -137,7 +138,7 @@ pub fn fresh(kind: u8) -> Outcome
 {
     if KIND_1024 < kind {
         return Outcome {
-            refusal: 1,
+            refusal: REFUSED_STATE,
             clock: fresh_of(KIND_256),
         };
     }

@@ -2,7 +2,7 @@
 use borrow.Author.Needs.{needs}
 use borrow.Author.Tests.{not-true, not-false}
 use mathlib.Core.Path.{sym, _∙_}
-use Rattle.clock.specs.Reading.{readingOf, readingRefusal}
+use Rattle.clock.specs.Reading.{toldOf, readingRefusal}
 use Rattle.clock.proofs.reading.read.Statement.{statement}
 use Rattle.clock.proofs.reading.read.Tie as tie
 
@@ -10,13 +10,13 @@ in-range-requires : tie.Need-in-range-requires
 in-range-requires c κs = search needs
 
 returns : tie.Need-returns
-unfolding readingOf readingRefusal
+unfolding toldOf readingRefusal
 returns c =
     let t = sym (c .before .in-range .ensures) ∙ not-true _ (c .if1 .taken) in
     simp t
 
 returns-2 : tie.Need-returns-2
-unfolding readingOf readingRefusal
+unfolding toldOf readingRefusal
 returns-2 c =
     let i = c .before .before .before in
     let t = sym (i .before .in-range .ensures) ∙ not-false _ (i .if1 .left) in

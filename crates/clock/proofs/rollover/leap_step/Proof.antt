@@ -1,46 +1,32 @@
--- `clock::rollover::leap_step`: the leap step, by the status and the second of the day.
-use mathlib.Core.Path.{_≡_, refl}
-use mathlib.Core.Bool.{Bool, true, false, _||_}
+-- `clock::rollover::leap_step`: the step of a code that may have one; the codes below and above have none.
+use mathlib.Core.Path.{_≡_}
 use Prim.Native.Nat.{ℕ}
-use lib.Dec.{eqb}
+use native.Mathlib.Omega.{arith}
 use borrow.Author.Needs.{needs}
-use borrow.Author.Tests.{eq-eqb, ne-eqb, eqb-true}
+use borrow.Author.Tests.{ne-eqb}
 use Rattle.clock.specs.Inner.{leapOf}
 use Rattle.clock.proofs.rollover.leap_step.Statement.{statement}
 use Rattle.clock.proofs.rollover.leap_step.Tie as tie
 
--- OK and BAD step nowhere
-no-step : (status s : ℕ) (b : Bool) → eqb status 0 ≡ b → eqb status 0 || eqb status 4 ≡ true → record { seconds = s; status = status } ≡ leapOf status s
-no-step status s true e h = rw (eqb-true status 0 e)
-no-step status s false e h = rw (eqb-true status 4 (rw e at h))
+no-step : (status s : ℕ) → (status ≡ 1 → ⊥) → (status ≡ 2 → ⊥) → (status ≡ 3 → ⊥)
+    → record { seconds = s; status = status } ≡ leapOf status s
+no-step status s ins del oop = simp (ne-eqb status 1 ins, ne-eqb status 2 del, ne-eqb status 3 oop)
 
-sub-t10 : tie.Need-sub-t10
-sub-t10 c = search needs
-
-add-t14 : tie.Need-add-t14
-add-t14 c = search needs
+stepped-requires : tie.Need-stepped-requires
+stepped-requires c κs = search needs
 
 returns : tie.Need-returns
-returns c = no-step (c .before .args .status) (c .before .args .s) (eqb (c .before .args .status) 0) refl (c .if1 .taken)
+returns c = search needs
 
 returns-2 : tie.Need-returns-2
-returns-2 c = simp (c .before .match .keys1, eq-eqb _ _ (c .if2 .taken))
+returns-2 c =
+    let a = c .before .args in
+    no-step (a .status) (a .s) (λ e. omega arith) (λ e. omega arith) (λ e. omega arith)
 
 returns-3 : tie.Need-returns-3
-returns-3 c = simp (c .before .match .keys1, ne-eqb _ _ (c .if2 .left))
-
-returns-4 : tie.Need-returns-4
-returns-4 c = simp (c .before .match .keys2, eq-eqb _ _ (c .if3 .taken))
-
-returns-5 : tie.Need-returns-5
-returns-5 c = simp (c .before .match .keys2, ne-eqb _ _ (c .if3 .left))
-
-returns-6 : tie.Need-returns-6
-returns-6 c = simp (c .match .keys3)
-
-returns-7 : tie.Need-returns-7
-returns-7 c = simp (ne-eqb _ _ (c .match .rest .1), ne-eqb _ _ (c .match .rest .0 .1), ne-eqb _ _ (c .match .rest .0 .0 .1))
+returns-3 c =
+    let a = c .before .before .args in
+    no-step (a .status) (a .s) (λ e. omega arith) (λ e. omega arith) (λ e. omega arith)
 
 pub leap-step-spec : {M : Type 1} → statement M
-leap-step-spec =
-    tie.close (tie.spec returns sub-t10 add-t14 returns-2 returns-3 returns-4 returns-5 returns-6 returns-7)
+leap-step-spec = tie.close (tie.spec stepped-requires returns returns-2 returns-3)

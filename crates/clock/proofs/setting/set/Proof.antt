@@ -51,8 +51,8 @@ returns-2 c = simp (inside (c .before .before), denied c)
 cast-t16 : tie.Need-cast-t16
 cast-t16 c = record { fits = omega (arith, time-fits (c .before) .1) }
 
-rate-for-requires : tie.Need-rate-for-requires
-rate-for-requires c κs =
+increments-for-requires : tie.Need-increments-for-requires
+increments-for-requires c κs =
     let e = c .before .before .before in
     let a = e .before .before .args .c in
     let k = ok a (inside e) in
@@ -65,7 +65,7 @@ returns-3 : tie.Need-returns-3
 unfolding settingOf settingRefusal
 returns-3 c =
     let e = c .before .before .before .before .before in
-    simp (inside (e .before .before), allowed e, c .before .before .before .rate-for .ensures)
+    simp (inside (e .before .before), allowed e, c .before .before .before .increments-for .ensures)
 
 pub set-spec : {M : Type 1} → statement M
 set-spec =
@@ -77,6 +77,6 @@ set-spec =
     cast-if2-2
     returns-2
     cast-t16
-    rate-for-requires
+    increments-for-requires
     cast-t16-2
     returns-3)

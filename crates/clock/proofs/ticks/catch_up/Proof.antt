@@ -5,7 +5,7 @@ use native.Mathlib.Omega.{arith}
 use borrow.Author.Needs.{needs}
 use borrow.Author.Tests.{not-true, not-false, lt-ltb, le-ltb}
 use Rattle.state.specs.State.{inRange}
-use Rattle.clock.specs.Ticks.{ranOf, refusedWith, catchUpOf}
+use Rattle.clock.specs.Ticks.{ranOf, refusedCatchUp, catchUpOf}
 use Rattle.clock.proofs.RunLaws.{catch-up-most}
 use Rattle.clock.proofs.ticks.catch_up.Statement.{statement}
 use Rattle.clock.proofs.ticks.catch_up.Tie as tie
@@ -23,7 +23,7 @@ returns : tie.Need-returns
 unfolding catchUpOf
 returns c =
     let a = c .before .before .before .args in
-    let h : refusedWith 1 (a .c) ≡ catchUpOf (a .c) (a .ceiling) (a .stop) = simp (sym (c .before .before .in-range .ensures) ∙ not-true _ (c .before .if1 .taken)) in
+    let h : refusedCatchUp 1 (a .c) ≡ catchUpOf (a .c) (a .ceiling) (a .stop) = simp (sym (c .before .before .in-range .ensures) ∙ not-true _ (c .before .if1 .taken)) in
     let e = c .refused .ensures ∙ h in
     (e, (catch-up-most (a .c) (a .ceiling) (a .stop) e, refl))
 
@@ -35,7 +35,7 @@ unfolding catchUpOf
 returns-2 c =
     let i = c .before .before in
     let a = i .before .before .args in
-    let h : refusedWith 16 (a .c) ≡ catchUpOf (a .c) (a .ceiling) (a .stop) = simp (inside i, lt-ltb 65536 (a .ceiling) (omega (arith, c .before .if2 .taken))) in
+    let h : refusedCatchUp 16 (a .c) ≡ catchUpOf (a .c) (a .ceiling) (a .stop) = simp (inside i, lt-ltb 65536 (a .ceiling) (omega (arith, c .before .if2 .taken))) in
     let e = c .refused2 .ensures ∙ h in
     (e, (catch-up-most (a .c) (a .ceiling) (a .stop) e, refl))
 

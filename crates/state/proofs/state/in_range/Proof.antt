@@ -1,45 +1,56 @@
 -- `state::in_range`: the parts of the table, the kind and what depends on it behind the others.
 use mathlib.Core.Path.{_≡_, refl, sym, _∙_}
-use mathlib.Core.Bool.{Bool, true, false, _&&_, and-false, and-assoc}
+use mathlib.Core.Bool.{Bool, true, false, _&&_, and-false}
 use borrow.Author.Needs.{needs}
-use borrow.Author.Tests.{not-true, not-false}
+use borrow.Author.Tests.{not-true, not-false, le-leb}
+use Rattle.integers.proofs.Ranges.{tested, true-and, parts-within, parts-between, parts-bounds}
 use Rattle.state.specs.Device.{kindRange, deviceOf}
 use Rattle.state.specs.State.{secondRange, microsRange, phaseRange, offsetRange, frequencyRange, adjustmentRange, constantRange, flagRange, intervalRange, zeroUnlessFlag, errorRange, statusRange, partsRange, inRange}
 use Rattle.state.specs.Inner.{firstFieldsRange, lastFieldsRange, fieldsOfKind}
 use Rattle.state.specs.declared.state.Clock.{Clock}
+use Rattle.state.proofs.Ok.{Ok, ok}
 use Rattle.state.proofs.state.in_range.Statement.{statement}
 use Rattle.state.proofs.state.in_range.Tie as tie
 
--- five tests between one test and two others, or before all three
-behind : (first j a b c d e r l : Bool) → first && j && a && b && c && d && e && r && l ≡ first && (a && b && c && d && e) && (j && r && l)
-behind true true a b c d e r l = and-assoc (a && b && c && d && e) r l
-behind true false a b c d e r l = sym (and-false (a && b && c && d && e))
-behind false j a b c d e r l = refl
+same : (a b : Bool) → (a ≡ true → b ≡ true) → (b ≡ true → a ≡ true) → a ≡ b
+same true b h k = sym (h refl)
+same false true h k = k refl
+same false false h k = refl
 
--- and a test before five others, or behind all
-moved : (k s m p o f j a b c d e r l : Bool)
-    → k && s && m && p && o && f && j && a && b && c && d && e && r && l ≡ s && m && p && o && f && (a && b && c && d && e) && (k && j && r && l)
-moved true s m p o f j a b c d e r l = behind (s && m && p && o && f) j a b c d e r l
-moved false s m p o f j a b c d e r l = sym (and-false (s && m && p && o && f && (a && b && c && d && e)))
+-- the ranges in the code's order
+abbrev inParts : Clock → Bool
+inParts c =
+    firstFieldsRange c
+    && lastFieldsRange c
+    && fieldsOfKind (c .kind) (c .adjustment .0) (c .remainder .0) (c .leftover .0)
 
-parts : (c : Clock) → inRange c ≡ firstFieldsRange c && lastFieldsRange c && fieldsOfKind (c .kind) (c .adjustment .0) (c .remainder .0) (c .leftover .0)
+ordered : (c : Clock) → Ok c → inParts c ≡ true
+ordered c k = search (true-and, le-leb, parts-between, parts-within, parts-bounds)
+
+back : (c : Clock) → inParts c ≡ true → inRange c ≡ true
 unfolding inRange
-parts c =
-    moved
-    (kindRange (c .kind))
-    (secondRange (c .seconds))
-    (microsRange (c .micros .0))
-    (phaseRange (c .phase .0))
-    (offsetRange (c .offset .0))
-    (frequencyRange (c .frequency .0))
-    (adjustmentRange (deviceOf (c .kind)) (c .adjustment .0))
-    (constantRange (c .constant))
-    (flagRange (c .updated) && intervalRange (c .interval) && zeroUnlessFlag (c .updated) (c .interval))
-    (errorRange (c .maxerror .0))
-    (errorRange (c .esterror .0))
-    (statusRange (c .status))
-    (partsRange (deviceOf (c .kind)) (c .remainder .0))
-    (partsRange (deviceOf (c .kind)) (c .leftover .0))
+back c e =
+    simp (
+      tested (kindRange (c .kind)) (λ t. simp (t, and-false)) e,
+      tested (secondRange (c .seconds)) (λ t. simp t) e,
+      tested (microsRange (c .micros .0)) (λ t. simp (t, and-false)) e,
+      tested (phaseRange (c .phase .0)) (λ t. simp (t, and-false)) e,
+      tested (offsetRange (c .offset .0)) (λ t. simp (t, and-false)) e,
+      tested (frequencyRange (c .frequency .0)) (λ t. simp (t, and-false)) e,
+      tested (adjustmentRange (deviceOf (c .kind)) (c .adjustment .0)) (λ t. simp (t, and-false)) e,
+      tested (constantRange (c .constant)) (λ t. simp (t, and-false)) e,
+      tested (flagRange (c .updated)) (λ t. simp (t, and-false)) e,
+      tested (intervalRange (c .interval)) (λ t. simp (t, and-false)) e,
+      tested (zeroUnlessFlag (c .updated) (c .interval)) (λ t. simp (t, and-false)) e,
+      tested (errorRange (c .maxerror .0)) (λ t. simp (t, and-false)) e,
+      tested (errorRange (c .esterror .0)) (λ t. simp (t, and-false)) e,
+      tested (statusRange (c .status)) (λ t. simp (t, and-false)) e,
+      tested (partsRange (deviceOf (c .kind)) (c .remainder .0)) (λ t. simp (t, and-false)) e,
+      tested (partsRange (deviceOf (c .kind)) (c .leftover .0)) (λ t. simp (t, and-false)) e,
+    )
+
+parts : (c : Clock) → inRange c ≡ inParts c
+parts c = same (inRange c) (inParts c) (λ e. ordered c (ok c e)) (back c)
 
 first-fields-in-range-requires : tie.Need-first-fields-in-range-requires
 first-fields-in-range-requires c κs = search needs

@@ -1,12 +1,12 @@
--- `clock::rollover::rate_for`: the steps of the adjustment fit 32 bits, so that it is what `adjustmentFor` says.
+-- `clock::rollover::increments_for`: the steps of the adjustment fit 32 bits, so that it is what `adjustmentFor` says.
 use borrow.Author.Needs.{needs}
 use mir.Facts.{toZ-ofZ, toZ-pos}
 use mir.Syntax.{w32}
 use Rattle.integers.proofs.Ranges.{within-parts}
 use Rattle.state.proofs.DeviceLaws.{fits-base, fits-scale}
 use Rattle.clock.proofs.RollLaws.{Adjusts, adjusts}
-use Rattle.clock.proofs.rollover.rate_for.Statement.{statement}
-use Rattle.clock.proofs.rollover.rate_for.Tie as tie
+use Rattle.clock.proofs.rollover.increments_for.Statement.{statement}
+use Rattle.clock.proofs.rollover.increments_for.Tie as tie
 
 fit : (s : tie.Start) → Adjusts (s .args .kind) (s .args .s .0) (s .args .f .0)
 fit s = adjusts (s .args .kind) (s .args .s .0) (s .args .f .0) (within-parts _ _ (s .args .s .0) (s .pre .0)) (within-parts _ _ (s .args .f .0) (s .pre .1))
@@ -48,7 +48,7 @@ returns c =
     let r = fit s in
     simp (d .device-constants .ensures .0, d .before .before .divide .ensures, toZ-pos w32 (fits-scale (s .args .kind) .sfits), toZ-ofZ (r .share), toZ-ofZ (r .scaled), toZ-ofZ (r .divides .quotient), toZ-ofZ (r .both), toZ-ofZ (fits-base (s .args .kind)), toZ-ofZ (r .adjusted))
 
-pub rate-for-spec : {M : Type 1} → statement M
-rate-for-spec =
+pub increments-for-spec : {M : Type 1} → statement M
+increments-for-spec =
     tie.close
     (tie.spec divide-requires device-constants-requires cast-t7 mul-t8 add-t9 add-t10 returns)
