@@ -4,3 +4,4 @@ pub mod OneClock
 pub mod Others
 pub mod Place
 pub mod Refusals
+pub mod WrongRigs
