@@ -27,7 +27,7 @@ use denote.Triple.Spec.{Meets}
 use denote.Triple.Walked.{Stays, gave-slice, hasOf, goes-gave-slice, walkOf, ends-at, walked, walk-meets}
 use Rattle.state.specs.declared.state.Clock.{Clock}
 use Rattle.state.proofs.state.Clock as T
-use Rattle.rig.proofs.Others.{Silent, dropped, fit, had, go}
+use Rattle.lending.proofs.Others.{Silent, dropped, fit, had, go}
 
 abbrev pub lent : Slot 1
 lent = mutSliceOf (0 ∷ []) tt (plain (λ _. T.the-row))

@@ -68,9 +68,9 @@ use Rattle.rig.proofs.rig.parted_step as callee
 use Rattle.rig.proofs.rig.parted_step.Symbol as callee-def
 use Rattle.rig.proofs.rig.parted_step.Symbol.{name as #callee}
 use Rattle.rig.proofs.rig.parted_step.Met as callee-thm
-use Rattle.rig.proofs.Answered.{is-value, answered}
+use Rattle.lending.proofs.Answered.{is-value, answered}
 use Rattle.rig.proofs.Place.{within}
-use Rattle.rig.proofs.Refusals.{is-zero, not-zero}
+use Rattle.lending.proofs.Refusals.{is-zero, not-zero}
 use Rattle.rig.proofs.LentTable.{Left, ends, given-up, meets}
 use Rattle.event.proofs.Kept.{step-same}
 use Rattle.rig.proofs.rig.event_at.Key.{name as #this}
