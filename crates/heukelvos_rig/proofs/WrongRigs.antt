@@ -18,9 +18,6 @@ use Rattle.heukelvos_rig.specs.RigEvent.{codedAnswerAt, codedTableAt}
 use Rattle.heukelvos_rig.specs.WrongRigs.{ShutOut}
 use Rattle.heukelvos_rig.specs.declared.rig_event.CodedEvent.{CodedEvent}
 
-differ : {m n : ℕ} → eqb m n ≡ false → m ≡ n → ⊥
-differ {m} {n} t p = eqb-false m n t p
-
 -- an event of a code, with zeros for all numbers
 abbrev coded : ℕ → CodedEvent
 coded code =
@@ -55,11 +52,11 @@ pub shut-out : ShutOut
 unfolding deviceOf inRange readingOf readingRefusal unitIn ticked tickRefusal tickOf answerAt tableAt codedAnswerAt codedTableAt
 shut-out =
     record {
-      taking = λ every. differ refl (ap (λ (r : Answer). r .refusal) (every a 0 (coded 5) .unknown (λ q. omega (arith, q)) .0));
-      ticking = λ every. differ refl (ap (λ (r : Answer). r .reading .maxerror .0) (every a 0 (coded 3) .known refl .0));
-      storing = λ every. differ refl (ap (λ (cs : List Clock). clockAt cs 0 .micros .0) (every a 0 (coded 0) .known refl .1));
+      taking = λ every. eqb-false _ _ refl (ap (λ (r : Answer). r .refusal) (every a 0 (coded 5) .unknown (λ q. omega (arith, q)) .0));
+      ticking = λ every. eqb-false _ _ refl (ap (λ (r : Answer). r .reading .maxerror .0) (every a 0 (coded 3) .known refl .0));
+      storing = λ every. eqb-false _ _ refl (ap (λ (cs : List Clock). clockAt cs 0 .micros .0) (every a 0 (coded 0) .known refl .1));
       clearing = λ every.
-          differ refl (ap (λ (cs : List Clock). clockAt cs 0 .kind) (every b 0 (coded 5) .unknown (λ q. omega (arith, q)) .1));
+          eqb-false _ _ refl (ap (λ (cs : List Clock). clockAt cs 0 .kind) (every b 0 (coded 5) .unknown (λ q. omega (arith, q)) .1));
       clearingKnown = λ every.
-          differ refl (ap (λ (cs : List Clock). clockAt cs 0 .kind) (every none 0 (coded 3) .kept (λ q. omega (arith, q))));
+          eqb-false _ _ refl (ap (λ (cs : List Clock). clockAt cs 0 .kind) (every none 0 (coded 3) .kept (λ q. omega (arith, q))));
     }

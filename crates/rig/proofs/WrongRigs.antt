@@ -26,21 +26,18 @@ b = freshClock kind1024
 abbrev none : Clock
 none = freshClock 2
 
-differ : {m n : ℕ} → eqb m n ≡ false → m ≡ n → ⊥
-differ {m} {n} t p = eqb-false m n t p
-
 pub shut-out : ShutOut
 unfolding answerAt tableAt inRange deviceOf readingOf readingRefusal
 shut-out =
     record {
       examining = λ decides.
-          differ refl (ap (λ (r : Answer). r .refusal) (decides (none ∷ a ∷ []) (a ∷ a ∷ []) 1 (Call Reading) refl refl .answer));
+          eqb-false _ _ refl (ap (λ (r : Answer). r .refusal) (decides (none ∷ a ∷ []) (a ∷ a ∷ []) 1 (Call Reading) refl refl .answer));
       copying = λ decides.
-          differ refl (ap (λ (c : Clock). c .kind) (decides (b ∷ a ∷ []) (a ∷ a ∷ []) 1 (Call Reading) refl refl .next));
+          eqb-false _ _ refl (ap (λ (c : Clock). c .kind) (decides (b ∷ a ∷ []) (a ∷ a ∷ []) 1 (Call Reading) refl refl .next));
       writing = λ stay.
-          differ refl (ap (λ (c : Clock). c .kind) (stay (b ∷ a ∷ []) 1 (Call Reading) .others 0 (λ q. omega (arith, q))));
-      growing = λ stay. differ refl (stay (a ∷ []) 0 (Call Reading) .length);
+          eqb-false _ _ refl (ap (λ (c : Clock). c .kind) (stay (b ∷ a ∷ []) 1 (Call Reading) .others 0 (λ q. omega (arith, q))));
+      growing = λ stay. eqb-false _ _ refl (stay (a ∷ []) 0 (Call Reading) .length);
       clearing = λ leaves.
-          differ refl (ap (λ (cs : List Clock). clockAt cs 0 .kind) (leaves (none ∷ []) 0 (Call Reading) (λ q. omega (arith, q))));
-      refusing = λ served. differ refl (served 8 7 (omega arith) (omega arith));
+          eqb-false _ _ refl (ap (λ (cs : List Clock). clockAt cs 0 .kind) (leaves (none ∷ []) 0 (Call Reading) (λ q. omega (arith, q))));
+      refusing = λ served. eqb-false _ _ refl (served 8 7 (omega arith) (omega arith));
     }

@@ -25,9 +25,6 @@ use Rattle.rig.specs.declared.rig.Answer.{Answer}
 use Rattle.rig_bounds.specs.Demand.{ownEvents, OnlyTheseChange, callsInTurn}
 use Rattle.rig_bounds.specs.WrongRigs.{ShutOut}
 
-differ : {m n : ℕ} → eqb m n ≡ false → m ≡ n → ⊥
-differ {m} {n} t p = eqb-false m n t p
-
 not-below : {m n : ℕ} → ltb m n ≡ false → m < n → ⊥
 not-below {m} {n} t l = omega (arith, ltb-false m n t)
 
@@ -40,9 +37,9 @@ shut-out =
     record {
       answering = (omega arith, refl, tt);
       near = λ near. not-below refl (near [] [] _ refl (refl, refl) .1);
-      answer = λ alone. differ refl (ap (λ (a : Answer). a .reading .seconds) (alone [] [] _ refl .answer refl));
+      answer = λ alone. eqb-false _ _ refl (ap (λ (a : Answer). a .reading .seconds) (alone [] [] _ refl .answer refl));
       storing = (omega arith, refl, (omega arith, refl, (omega arith, refl, tt)));
       forward = λ forward. not-most refl (forward [] (_ ∷ []) [] _ _ refl (refl, refl) (refl, refl) refl);
-      left = λ alone. differ refl (ap (λ (c : Clock). c .micros .0) (alone (_ ∷ []) (_ ∷ []) _ refl .left));
-      got = λ alone. differ refl (ap (λ (c : Clock). c .micros .0) (alone (_ ∷ _ ∷ []) [] _ refl .got));
+      left = λ alone. eqb-false _ _ refl (ap (λ (c : Clock). c .micros .0) (alone (_ ∷ []) (_ ∷ []) _ refl .left));
+      got = λ alone. eqb-false _ _ refl (ap (λ (c : Clock). c .micros .0) (alone (_ ∷ _ ∷ []) [] _ refl .got));
     }
