@@ -2,7 +2,7 @@
  * The lent calls of the library, called from C, for bench/run to hold against C's own: the clock, the loop and the checksum are those of
  * bench/reference.c, so that `tick-in-place N` prints what its `tick N` prints.
  *
- *   tick-in-place N     N calls of heukelvos_tick
+ *   tick-in-place N     N calls of heukelvos_tick_in_place
  *   tick-called N       N calls of C's own tick, which is not put into the loop: as any C library would have it
  *   tick-on-rig N       N calls of heukelvos_event_at, each a tick of the next of eight clocks
  *   tick-on-rig-called N    the same by C's own, which takes the same event and makes every call in place
@@ -23,7 +23,7 @@ _Static_assert(offsetof(struct clock, leftover) == offsetof(struct heukelvos_clo
 
 static inline int in_place(struct clock *c)
 {
-	return heukelvos_tick((struct heukelvos_clock *)c);
+	return heukelvos_tick_in_place((struct heukelvos_clock *)c);
 }
 
 static __attribute__((noinline)) int called(struct clock *c)

@@ -189,7 +189,7 @@ static inline Clock random_clock(void)
 		c.leftover = some_parts(c.kind);
 	}
 	if (draw(2))
-		c = heukelvos_caught_up(c, draw(2000), false).clock;
+		c = heukelvos_catch_up(c, draw(2000), false).clock;
 	return draw(8) ? c : spoilt(c);
 }
 

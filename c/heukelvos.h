@@ -210,16 +210,16 @@ struct heukelvos_answer {
 /*
  * The clock lent, and changed in place: for a timer handler.
  *
- * heukelvos_tick: one tick of the device's timer, hardclock() of RFC 1589. Answers 0; or 1, 3, and the clock is as it was, not written to.
+ * heukelvos_tick_in_place: one tick of the device's timer, hardclock() of RFC 1589. Answers 0; or 1, 3, and the clock is as it was, not written to.
  *
- * heukelvos_catch_up: up to `ceiling` ticks in one call, the same as that many single ones, as far as the first that is refused; with
+ * heukelvos_catch_up_in_place: up to `ceiling` ticks in one call, the same as that many single ones, as far as the first that is refused; with
  * `stop`, none after one that rolls the second over (an inserted second counts as one). Answers refusal 1 for a clock out of range, then 16
  * for a ceiling above 65,536, with count 0 and tick_refusal 0, and the clock is as it was, not written to. Else refusal 0, how many ticks
  * were accepted, and tick_refusal 3 if one was refused for the last second, 0 if not: the clock then is the one that the accepted ticks led
  * to. Ceiling 0 is accepted and does nothing. The ceiling is reached before a refusal is looked for.
  */
-uint8_t heukelvos_tick(struct heukelvos_clock *clock);
-struct heukelvos_counted heukelvos_catch_up(struct heukelvos_clock *clock, uint64_t ceiling, bool stop);
+uint8_t heukelvos_tick_in_place(struct heukelvos_clock *clock);
+struct heukelvos_counted heukelvos_catch_up_in_place(struct heukelvos_clock *clock, uint64_t ceiling, bool stop);
 
 /*
  * A rig: several recorders on one host, their clocks in one table, which is lent. In libheukelvos_rig.a.
@@ -231,7 +231,7 @@ struct heukelvos_counted heukelvos_catch_up(struct heukelvos_clock *clock, uint6
  * No other clock is looked at or written to: it may be out of range.
  *
  * The whole table is lent, and so a handler of any of its clocks is held off. Where that is not wanted, one clock can be lent as a table of its
- * own, (&table[place], 1, 0, event), and a tick of it be made by heukelvos_tick(&table[place]), which is the same tick and faster.
+ * own, (&table[place], 1, 0, event), and a tick of it be made by heukelvos_tick_in_place(&table[place]), which is the same tick and faster.
  */
 struct heukelvos_answer heukelvos_event_at(struct heukelvos_clock *table, size_t clocks, size_t place, struct heukelvos_event event);
 
@@ -241,8 +241,8 @@ struct heukelvos_answer heukelvos_event_at(struct heukelvos_clock *table, size_t
  * heukelvos_fresh      a clock of a kind to which nothing has happened yet, which counts as set to 0 s. Refusal 1 for a number that is no
  *                      kind: the clock is then that of kind 0
  * heukelvos_in_range   whether every field lies in its range
- * heukelvos_ticked     what heukelvos_tick answers and leaves
- * heukelvos_caught_up  what heukelvos_catch_up answers and leaves
+ * heukelvos_tick       what heukelvos_tick_in_place answers and leaves
+ * heukelvos_catch_up   what heukelvos_catch_up_in_place answers and leaves
  * heukelvos_set        the clock set to seconds since 1970, 0 to 4,294,967,295, and microseconds, 0 to 999,999. Frequency, time
  *                      constant and kind stay; phase, offset left and leftover are 0, adjustment and remainder are those of the frequency,
  *                      no offset counts as accepted, both errors are 16,000,000 us, the status is BAD. Refusals 1, 2
@@ -255,8 +255,8 @@ struct heukelvos_answer heukelvos_event_at(struct heukelvos_clock *table, size_t
  */
 struct heukelvos_outcome heukelvos_fresh(uint64_t kind);
 bool heukelvos_in_range(struct heukelvos_clock clock);
-struct heukelvos_outcome heukelvos_ticked(struct heukelvos_clock clock);
-struct heukelvos_catch_up_answer heukelvos_caught_up(struct heukelvos_clock clock, uint64_t ceiling, bool stop);
+struct heukelvos_outcome heukelvos_tick(struct heukelvos_clock clock);
+struct heukelvos_catch_up_answer heukelvos_catch_up(struct heukelvos_clock clock, uint64_t ceiling, bool stop);
 struct heukelvos_outcome heukelvos_set(struct heukelvos_clock clock, uint64_t seconds, uint64_t micros);
 struct heukelvos_outcome heukelvos_adjust(struct heukelvos_clock clock, struct heukelvos_request request);
 struct heukelvos_told heukelvos_read(struct heukelvos_clock clock);

@@ -72,7 +72,7 @@ static struct heukelvos_catch_up_answer one_by_one(Clock c, uint64_t ceiling, bo
 	else
 		while (r.count < ceiling) {
 			uint32_t before = r.clock.micros;
-			r.tick_refusal = heukelvos_tick(&r.clock);
+			r.tick_refusal = heukelvos_tick_in_place(&r.clock);
 			if (r.tick_refusal)
 				break;
 			r.count++;
@@ -86,9 +86,9 @@ static struct heukelvos_catch_up_answer one_by_one(Clock c, uint64_t ceiling, bo
 static bool catches_up(Clock c, uint64_t ceiling, bool stop)
 {
 	struct heukelvos_catch_up_answer single = one_by_one(c, ceiling, stop);
-	struct heukelvos_catch_up_answer value = heukelvos_caught_up(c, ceiling, stop);
+	struct heukelvos_catch_up_answer value = heukelvos_catch_up(c, ceiling, stop);
 	Clock lent = c;
-	struct heukelvos_counted counted = heukelvos_catch_up(&lent, ceiling, stop);
+	struct heukelvos_counted counted = heukelvos_catch_up_in_place(&lent, ceiling, stop);
 	if (same(lent, value.clock) && counted.refusal == value.refusal && counted.count == value.count
 	    && counted.tick_refusal == value.tick_refusal && same(lent, single.clock) && counted.refusal == single.refusal
 	    && counted.count == single.count && counted.tick_refusal == single.tick_refusal)
@@ -173,8 +173,8 @@ static bool through(int kind, int leap)
 	uint64_t rollovers = 0;
 	for (int n = 0; n < 1000000; n++) {
 		uint32_t before = lent.micros;
-		struct heukelvos_outcome value = heukelvos_ticked(lent);
-		uint8_t refusal = heukelvos_tick(&lent);
+		struct heukelvos_outcome value = heukelvos_tick(lent);
+		uint8_t refusal = heukelvos_tick_in_place(&lent);
 		rollovers += lent.micros < before;
 		if (refusal != 0 || value.refusal != 0 || !same(lent, value.clock)) {
 			printf("    tick %d: refusal %d, by value %d\n", n, refusal, value.refusal);
@@ -198,7 +198,7 @@ static bool lasts(Clock c, uint64_t ticks)
 	uint64_t rate = devices[c.kind].rate;
 	bool met = false;
 	for (int n = 0; n < 100; n++) {
-		uint64_t count = heukelvos_catch_up(&c, HEUKELVOS_MAX_CEILING, true).count;
+		uint64_t count = heukelvos_catch_up_in_place(&c, HEUKELVOS_MAX_CEILING, true).count;
 		if (count < rate - 1 || rate + 1 < count) {
 			printf("    a second of %" PRIu64 " ticks\n", count);
 			return show("after it", c), false;
@@ -215,9 +215,9 @@ static bool seconds_of_ticks(int kind)
 	int rate = devices[kind].rate;
 	Clock c = fresh(kind);
 	for (int n = 1; n < rate; n++)
-		if (heukelvos_tick(&c) != 0 || c.seconds != 0)
+		if (heukelvos_tick_in_place(&c) != 0 || c.seconds != 0)
 			return printf("    tick %d\n", n), show("after it", c), false;
-	if (heukelvos_tick(&c) != 0 || c.seconds != 1 || c.micros != 0 || c.phase != 0)
+	if (heukelvos_tick_in_place(&c) != 0 || c.seconds != 1 || c.micros != 0 || c.phase != 0)
 		return show("after a second", c), false;
 	return lasts(c, rate) && lasts(sound(kind, 9), rate - 1) && lasts(sound(kind, 10), rate + 1);
 }
@@ -230,7 +230,7 @@ static bool counts(Clock *c, int rollovers)
 {
 	while (rollovers) {
 		Clock before = *c;
-		uint8_t refusal = heukelvos_tick(c);
+		uint8_t refusal = heukelvos_tick_in_place(c);
 		bool rolled = c->micros < before.micros;
 		bool counted = rolled && before.updated && before.interval < HEUKELVOS_MAX_INTERVAL;
 		if (refusal || c->updated != before.updated || c->interval != before.interval + counted) {
@@ -309,11 +309,11 @@ static bool refused_ticks(int kind)
 {
 	for (int n = 0; n < FAULTS; n++) {
 		Clock lent = unsound(kind, n);
-		if (heukelvos_tick(&lent) != HEUKELVOS_REFUSED_STATE || !same(lent, unsound(kind, n)))
+		if (heukelvos_tick_in_place(&lent) != HEUKELVOS_REFUSED_STATE || !same(lent, unsound(kind, n)))
 			return printf("    fault %d\n", n), false;
 	}
 	Clock last = sound(kind, 8), lent = last;
-	return heukelvos_tick(&lent) == HEUKELVOS_REFUSED_LAST && same(lent, last) && heukelvos_ticked(lent).refusal == HEUKELVOS_REFUSED_LAST;
+	return heukelvos_tick_in_place(&lent) == HEUKELVOS_REFUSED_LAST && same(lent, last) && heukelvos_tick(lent).refusal == HEUKELVOS_REFUSED_LAST;
 }
 
 static bool edges(int kind)
@@ -420,9 +420,9 @@ static bool nothing_lost(int kind)
 		const uint64_t tick = (UINT64_C(1) * d->tick * HEUKELVOS_PHASE_PER_MICRO + d->base) * d->parts + frequencies[k];
 		uint64_t at = exact(c);
 		for (int n = 0; n < 3000; n++)
-			if (heukelvos_tick(&c) != 0 || exact(c) != (at += tick))
+			if (heukelvos_tick_in_place(&c) != 0 || exact(c) != (at += tick))
 				return printf("    frequency %" PRId32 ", tick %d\n", frequencies[k], n), show("after it", c), false;
-		if (heukelvos_catch_up(&c, HEUKELVOS_MAX_CEILING, false).count != HEUKELVOS_MAX_CEILING || exact(c) != at + HEUKELVOS_MAX_CEILING * tick)
+		if (heukelvos_catch_up_in_place(&c, HEUKELVOS_MAX_CEILING, false).count != HEUKELVOS_MAX_CEILING || exact(c) != at + HEUKELVOS_MAX_CEILING * tick)
 			return printf("    frequency %" PRId32 "\n", frequencies[k]), show("after a catch-up", c), false;
 	}
 	return true;
@@ -439,9 +439,9 @@ static bool whole_unit(int kind, int way)
 	c.phase = HEUKELVOS_PHASE_PER_MICRO - d->base - (way > 0);
 	c.remainder = way;
 	c.leftover = way * (d->parts - 1);
-	with = heukelvos_ticked(c).clock;
+	with = heukelvos_tick(c).clock;
 	c.leftover -= way;
-	without = heukelvos_ticked(c).clock;
+	without = heukelvos_tick(c).clock;
 	if ((int)with.micros != d->tick + (way > 0) || with.phase != (way > 0 ? 0 : HEUKELVOS_PHASE_PER_MICRO - 1) || with.leftover != 0
 	    || (int)without.micros != d->tick + (way < 0) || without.phase != (way < 0 ? 0 : HEUKELVOS_PHASE_PER_MICRO - 1)
 	    || without.leftover != way * (d->parts - 1))
@@ -451,7 +451,7 @@ static bool whole_unit(int kind, int way)
 	without = c;
 	with = c;
 	with.leftover += way;
-	return heukelvos_tick(way > 0 ? &with : &without) == HEUKELVOS_REFUSED_LAST && heukelvos_tick(way > 0 ? &without : &with) == 0
+	return heukelvos_tick_in_place(way > 0 ? &with : &without) == HEUKELVOS_REFUSED_LAST && heukelvos_tick_in_place(way > 0 ? &without : &with) == 0
 		&& (way > 0 ? with : without).leftover == way * (d->parts - (way > 0 ? 1 : 2));
 }
 
@@ -468,7 +468,7 @@ static bool in_force(int kind)
 		return show("after a request", c), false;
 	while (before.micros <= c.micros) {
 		before = c;
-		if (heukelvos_tick(&c) != 0)
+		if (heukelvos_tick_in_place(&c) != 0)
 			return show("refused", c), false;
 	}
 	return c.remainder == -5 && c.leftover == (before.leftover + 3) % parts && before.remainder == 3;
@@ -497,7 +497,7 @@ static void printed(void)
 /* A catch-up is told as the ticks that it tried: the accepted ones, and the one that was refused. */
 static void slept(uint64_t ceiling, bool stop)
 {
-	struct heukelvos_counted r = heukelvos_catch_up(&day, ceiling, stop);
+	struct heukelvos_counted r = heukelvos_catch_up_in_place(&day, ceiling, stop);
 	if (history)
 		printf("tick %" PRIu64 "\n", r.count + (r.tick_refusal != 0));
 	else if (r.tick_refusal)
@@ -518,7 +518,7 @@ static void day_of_calls(void)
 	day = fresh(HEUKELVOS_KIND_256);
 	set(1798750000, 90000, -5 * HEUKELVOS_FREQUENCY_PER_PPM, HEUKELVOS_TIME_INS);
 	for (int n = 0; n < 1000000; n++)
-		heukelvos_tick(&day);
+		heukelvos_tick_in_place(&day);
 	if (history)
 		puts("tick 1000000");
 	printed();

@@ -61,7 +61,7 @@ static Answer alone(Clock *c, Event e)
 	struct heukelvos_told told;
 	Answer a = refused_with(0);
 	switch (e.code) {
-	case HEUKELVOS_EVENT_TICK: return changed(c, heukelvos_ticked(*c));
+	case HEUKELVOS_EVENT_TICK: return changed(c, heukelvos_tick(*c));
 	case HEUKELVOS_EVENT_SETTING: return changed(c, heukelvos_set(*c, e.seconds, e.micros));
 	case HEUKELVOS_EVENT_REQUEST: return changed(c, heukelvos_adjust(*c, e.request));
 	case HEUKELVOS_EVENT_READING:
@@ -70,7 +70,7 @@ static Answer alone(Clock *c, Event e)
 		a.reading = told.reading;
 		return a;
 	default:
-		made = heukelvos_caught_up(*c, e.ceiling, e.stop);
+		made = heukelvos_catch_up(*c, e.ceiling, e.stop);
 		*c = made.clock;
 		a.refusal = made.refusal;
 		a.count = made.count;

@@ -56,7 +56,7 @@ built() { # PROGRAM
 stand_alone() {
     # shellcheck disable=SC2086
     nm $libraries >"$work/symbols" || return 1
-    for name in heukelvos_tick heukelvos_event_at; do
+    for name in heukelvos_tick_in_place heukelvos_event_at; do
         [ "$(grep -c " T $name\$" "$work/symbols")" -eq 1 ] || { echo "there is not one $name"; return 1; }
     done
     ! grep -E ' [BCDGSbdgs] | U ' "$work/symbols" | grep -vE ' U mem(cpy|move|set)$'

@@ -6,7 +6,7 @@ use lib.Dec.{eqb}
 use lib.IntN.{pos, natAbs}
 use Rattle.state.specs.Units.{micros, phaseParts}
 use Rattle.state.specs.Device.{kind256, kind1024}
-use Rattle.state.specs.State.{Time, Update, timeOf, correctionOf, tuningOf, updateOf, errorsOf, whole}
+use Rattle.state.specs.State.{Moment, Update, timeOf, correctionOf, tuningOf, updateOf, errorsOf, whole}
 use Rattle.state.specs.State.{noUpdate, lastMicro}
 use Rattle.state.specs.declared.state.Clock.{Clock}
 use Rattle.state.specs.declared.units.PhaseUnits.{PhaseUnits}
@@ -32,7 +32,7 @@ abbrev pub timeFrom : ℕ → ℕ → PhaseUnits → PhaseParts → Time
 timeFrom s u p l = record { seconds = s; micros = micros u; phase = p; leftover = l }
 
 -- a clock, but for its time
-abbrev pub timed : Time → Clock → Clock
+abbrev pub timed : Moment → Clock → Clock
 timed time c =
     whole
     (record {

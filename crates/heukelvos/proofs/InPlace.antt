@@ -35,7 +35,7 @@ use denote.Triple.Walked.{Stays, stay-ref, hasOf, goes-ref, walkOf, ends-at, wal
 use Rattle.state.specs.declared.state.Clock.{Clock}
 use Rattle.state.proofs.state.Clock as T
 use Rattle.state.proofs.state.Clock.Laws as T′
-use Rattle.rig.proofs.Others.{Silent, dropped, fit, had, go}
+use Rattle.lending.proofs.Others.{Silent, dropped, fit, had, go}
 
 -- the machine value of a clock, and that it is one
 abbrev pub value : Clock → Val

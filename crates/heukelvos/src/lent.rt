@@ -8,7 +8,7 @@ use clock::Clock;
 
 // One tick.
 #[no_mangle]
-pub extern "C" fn heukelvos_tick(c: &mut Clock) -> u8
+pub extern "C" fn heukelvos_tick_in_place(c: &mut Clock) -> u8
     ensures { λ r. ⌜ (r ≡ tickOf (now (c .entry)) .refusal)
         × (now (c .exit) ≡ tickOf (now (c .entry)) .clock)
         × Kept r (now (c .entry)) (now (c .exit)) ⌝ }
@@ -52,7 +52,7 @@ fn caught_up(c: Clock, ceiling: u64, stop: bool) -> Parted
 
 // Up to `ceiling` ticks, to the first that is refused; where `stop`, to the tick that rolls the second over.
 #[no_mangle]
-pub extern "C" fn heukelvos_catch_up(c: &mut Clock, ceiling: u64, stop: bool) -> Counted
+pub extern "C" fn heukelvos_catch_up_in_place(c: &mut Clock, ceiling: u64, stop: bool) -> Counted
     ensures { λ r. ⌜ (r ≡ counted (catchUpOf (now (c .entry)) ceiling stop))
         × (now (c .exit) ≡ catchUpOf (now (c .entry)) ceiling stop .clock)
         × Kept (r .refusal) (now (c .entry)) (now (c .exit)) ⌝ }

@@ -37,17 +37,17 @@ pub extern "C" fn heukelvos_in_range(c: Clock) -> bool
     clock::in_range(c)
 }
 
-// By a run of one tick: so `clock::tick` has one caller in the library, `heukelvos_tick`, and is put into it. With two it is a call there,
-// and copies the clock twice.
+// By a run of one tick: so `clock::tick` has one caller in the library, `heukelvos_tick_in_place`, and is put
+// into it. With two it is a call there, and copies the clock twice.
 #[no_mangle]
-pub extern "C" fn heukelvos_ticked(c: Clock) -> Outcome
+pub extern "C" fn heukelvos_tick(c: Clock) -> Outcome
     ensures { λ r. ⌜ r ≡ tickOf c ⌝ }
 {
     clock::run_ticks(c, 1)
 }
 
 #[no_mangle]
-pub extern "C" fn heukelvos_caught_up(c: Clock, ceiling: u64, stop: bool) -> CaughtUp
+pub extern "C" fn heukelvos_catch_up(c: Clock, ceiling: u64, stop: bool) -> CaughtUp
     ensures { λ r. ⌜ r ≡ catchUpOf c ceiling stop ⌝ }
 {
     clock::catch_up(c, ceiling, stop)

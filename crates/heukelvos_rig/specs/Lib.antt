@@ -1,1 +1,2 @@
 pub mod RigEvent
+pub mod WrongRigs

@@ -41,13 +41,22 @@ codedAnswerAt table place e =
 unfoldable pub codedTableAt : List Clock → ℕ → CodedEvent → List Clock
 codedTableAt table place e = cond (eqb (codeRefusal (e .code)) 0) (tableAt table place (eventOf e)) table
 
--- A call is that on the rig for the event of its code, so that what is said of those is said of it; or nothing.
-pub record CodedCall (table : List Clock) (place : ℕ) (e : CodedEvent) : Type 0 where
-  pub known : codeRefusal (e .code) ≡ 0
-      → (codedAnswerAt table place e ≡ answerAt table place (eventOf e)) × (codedTableAt table place e ≡ tableAt table place (eventOf e))
-  pub unknown : (codeRefusal (e .code) ≡ 0 → ⊥) → (codedAnswerAt table place e ≡ bareAnswer 12) × (codedTableAt table place e ≡ table)
-  -- "A refused call [..] hands back the clock [..] unchanged": of whatever number, and every clock
-  pub kept : (codedAnswerAt table place e .refusal ≡ 0 → ⊥) → codedTableAt table place e ≡ table
+-- what answers calls with a code: the answer, and the table that the call leaves
+pub record CodedRig : Type 0 where
+  pub answer : List Clock → ℕ → CodedEvent → Answer
+  pub left : List Clock → ℕ → CodedEvent → List Clock
 
-abbrev pub EveryCodedCall : Type 0
-EveryCodedCall = (table : List Clock) (place : ℕ) (e : CodedEvent) → CodedCall table place e
+-- by the rules: what `heukelvos_event_at` promises to be
+abbrev pub theCodedRig : CodedRig
+theCodedRig = record { answer = codedAnswerAt; left = codedTableAt }
+
+-- A call is that on the rig for the event of its code, so that what is said of those is said of it; or nothing.
+pub record CodedCall (rig : CodedRig) (table : List Clock) (place : ℕ) (e : CodedEvent) : Type 0 where
+  pub known : codeRefusal (e .code) ≡ 0
+      → (rig .answer table place e ≡ answerAt table place (eventOf e)) × (rig .left table place e ≡ tableAt table place (eventOf e))
+  pub unknown : (codeRefusal (e .code) ≡ 0 → ⊥) → (rig .answer table place e ≡ bareAnswer 12) × (rig .left table place e ≡ table)
+  -- "A refused call [..] hands back the clock [..] unchanged": of whatever number, and every clock
+  pub kept : (rig .answer table place e .refusal ≡ 0 → ⊥) → rig .left table place e ≡ table
+
+abbrev pub EveryCodedCall : CodedRig → Type 0
+EveryCodedCall rig = (table : List Clock) (place : ℕ) (e : CodedEvent) → CodedCall rig table place e

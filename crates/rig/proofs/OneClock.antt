@@ -3,6 +3,7 @@ use mathlib.Core.Path.{_≡_, refl, sym, _∙_, ap}
 use mathlib.Core.Bool.{Bool, true, false}
 use mathlib.Core.List.{List}
 use Prim.Native.Nat.{ℕ}
+use native.Mathlib.Omega.{arith}
 use lib.Dec.{eqb}
 use lib.ListN.{length, set, length-set}
 use lib.Seq.{getD-set-same, getD-set-other, set-getD}
@@ -12,7 +13,7 @@ use Rattle.event.specs.Event.{stepOf}
 use Rattle.event.specs.declared.event.Event.{Event}
 use Rattle.event.proofs.Kept.{step-same}
 use Rattle.rig.specs.Rig.{tableRefusal, clockAt, answered, bareAnswer, answerAt, tableAt}
-use Rattle.rig.specs.OneClock.{SameThere, NamedClockDecides, OthersStay, OthersAlwaysStay, RefusedLeavesAll}
+use Rattle.rig.specs.OneClock.{theRig, SameThere, NamedClockDecides, OthersAlwaysStay, RefusedLeavesAll}
 use Rattle.rig.specs.declared.rig.Answer.{Answer}
 use Rattle.rig.proofs.Place.{within}
 
@@ -44,33 +45,34 @@ module _ (a b : List Clock) (place : ℕ) (e : Event) (long : length a ≡ lengt
   both : (z : Bool) → passed a place ≡ z → passed b place ≡ z
   both z t = ap (λ (n : ℕ). eqb (tableRefusal n place) 0) (sym long) ∙ t
 
-  by-place : (z : Bool) → passed a place ≡ z → SameThere a b place e
+  by-place : (z : Bool) → passed a place ≡ z → SameThere theRig a b place e
   by-place true t =
       let u = both true t in
       record {
-        answer = answer-passed a place e t ∙ ap (λ (c : Clock). answered (stepOf c e)) same ∙ sym (answer-passed b place e u);
-        next = next-passed a place e t ∙ ap (λ (c : Clock). stepOf c e .clock) same ∙ sym (next-passed b place e u);
+        answer = simp (answer-passed a place e t, answer-passed b place e u, same);
+        next = simp (next-passed a place e t, next-passed b place e u, same);
       }
   by-place false t =
       let u = both false t in
       record {
-        answer = answer-refused a place e t ∙ ap (λ (n : ℕ). bareAnswer (tableRefusal n place)) long ∙ sym (answer-refused b place e u);
-        next = ap (λ (cs : List Clock). clockAt cs place) (table-kept a place e t) ∙ same ∙ ap (λ (cs : List Clock). clockAt cs place) (sym (table-kept b place e u));
+        answer = simp (answer-refused a place e t, answer-refused b place e u, long);
+        next = simp (table-kept a place e t, table-kept b place e u, same);
       }
 
-pub named-clock-decides : NamedClockDecides
-named-clock-decides a b place e long same = by-place a b place e long same (passed a place) refl
+pub named-clock-decides : NamedClockDecides theRig
+named-clock-decides a b place e long same = by-place a b place e (omega (arith, long)) same (passed a place) refl
 
 -- ---- the others stay
 module _ (table : List Clock) (place : ℕ) (e : Event) where
-  stay : (z : Bool) → passed table place ≡ z → OthersStay table place e
+  as-many : (z : Bool) → passed table place ≡ z → length (tableAt table place e) ≡ length table
   unfolding tableAt
-  stay true t =
-      record {
-        length = simp t (length-set table place (stepOf (clockAt table place) e .clock));
-        others = λ other apart. simp t (getD-set-other table place other (stepOf (clockAt table place) e .clock) _ apart);
-      }
-  stay false t = record { length = ap length (table-kept table place e t); others = λ other apart. ap (λ (cs : List Clock). clockAt cs other) (table-kept table place e t) }
+  as-many true t = simp t (length-set table place (stepOf (clockAt table place) e .clock))
+  as-many false t = ap length (table-kept table place e t)
+
+  other-kept : (z : Bool) → passed table place ≡ z → (other : ℕ) → (other ≡ place → ⊥) → clockAt (tableAt table place e) other ≡ clockAt table other
+  unfolding tableAt
+  other-kept true t other apart = simp t (getD-set-other table place other (stepOf (clockAt table place) e .clock) _ apart)
+  other-kept false t other apart = ap (λ (cs : List Clock). clockAt cs other) (table-kept table place e t)
 
   leaves-all : (answerAt table place e .refusal ≡ 0 → ⊥) → (z : Bool) → passed table place ≡ z → tableAt table place e ≡ table
   unfolding tableAt
@@ -80,8 +82,12 @@ module _ (table : List Clock) (place : ℕ) (e : Event) where
       simp t (ap (set table place) same ∙ set-getD table place _)
   leaves-all refused false t = table-kept table place e t
 
-pub others-always-stay : OthersAlwaysStay
-others-always-stay table place e = stay table place e (passed table place) refl
+pub others-always-stay : OthersAlwaysStay theRig
+others-always-stay table place e =
+    record {
+      length = omega (arith, as-many table place e (passed table place) refl);
+      others = λ other apart. other-kept table place e (passed table place) refl other (λ q. omega (arith, apart, q));
+    }
 
-pub refused-leaves-all : RefusedLeavesAll
-refused-leaves-all table place e refused = leaves-all table place e refused (passed table place) refl
+pub refused-leaves-all : RefusedLeavesAll theRig
+refused-leaves-all table place e refused = leaves-all table place e (λ z. omega (arith, refused, z)) (passed table place) refl

@@ -5,17 +5,17 @@ use Prim.Native.Nat.{ℕ, _<_}
 use native.Mathlib.Omega.{arith}
 use lib.Dec.{leb, ltb}
 use borrow.Author.Tests.{leb-false, le-ltb, lt-leb}
-use Rattle.state.specs.Refusal.{refuse}
 use Rattle.rig.specs.Rig.{mostClocks, tableRefusal}
 use Rattle.rig.specs.OneClock.{EveryPlaceServed}
 
-by-tests : (a b : Bool) → refuse a 19 (refuse b 18 0) ≡ 0 → b ≡ false
-by-tests true b p = absurd (let z : _≡_ {A = ℕ} 19 0 = p in omega arith)
-by-tests false true p = absurd (let z : _≡_ {A = ℕ} 18 0 = p in omega arith)
-by-tests false false p = refl
+-- by the two tests, whichever number each gives and whichever comes first
+by-tests : (n i : ℕ) (many beyond : Bool) → ltb mostClocks n ≡ many → leb n i ≡ beyond → tableRefusal n i ≡ 0 → beyond ≡ false
+by-tests n i many false s t p = refl
+by-tests n i true true s t p = absurd (omega (arith, simp (s, t) at p))
+by-tests n i false true s t p = absurd (omega (arith, simp (s, t) at p))
 
 pub within : (n i : ℕ) → tableRefusal n i ≡ 0 → i < n
-within n i p = leb-false n i (by-tests (ltb mostClocks n) (leb n i) p)
+within n i p = leb-false n i (by-tests n i (ltb mostClocks n) (leb n i) refl refl p)
 
-pub every-place-served : EveryPlaceServed
-every-place-served clocks place most less = simp (le-ltb _ _ most, lt-leb _ _ less)
+pub every-place-served : EveryPlaceServed tableRefusal
+every-place-served clocks place most less = simp (le-ltb mostClocks clocks (omega (arith, most)), lt-leb clocks place (omega (arith, less)))

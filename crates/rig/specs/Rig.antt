@@ -40,7 +40,7 @@ parted a = record { answer = answered a; clock = a .clock }
 abbrev pub bareAnswer : ℕ → Answer
 bareAnswer n = record { refusal = n; count = 0; «tick_refusal» = 0; reading = noReading }
 
--- "the answer is that of the single-clock call [..]; only the named clock is examined"
+-- "the answer is that of the single-clock call"; "only the named clock is examined"
 unfoldable pub answerAt : List Clock → ℕ → Event → Answer
 answerAt table place e =
     let refusal = tableRefusal (length table) place in

@@ -1,1 +1,3 @@
 pub mod Theorem
+pub mod TwoRecorders
+pub mod WrongRigs

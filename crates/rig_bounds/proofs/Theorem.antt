@@ -3,6 +3,7 @@ use Prim.Native.Nat.{ℕ, _+_, _*_, _≤_, _<_}
 use mathlib.Core.Path.{_≡_, refl, sym, _∙_, ap, subst}
 use mathlib.Core.Bool.{Bool, true, false, _&&_, cond}
 use mathlib.Core.List.{List, [], _∷_, _++_, append-assoc}
+use native.Mathlib.Omega.{arith}
 use lib.Dec.{eqb}
 use lib.ListN.{length}
 use borrow.Author.Tests.{eqb-true, eqb-false}
@@ -21,9 +22,10 @@ use Rattle.bounds.specs.Demand.{tells, bookOf, NearExact, FirstBound}
 use Rattle.bounds.proofs.Runs.{after-append}
 use Rattle.bounds.proofs.Theorem.{demand3}
 use Rattle.rig.specs.Rig.{tableRefusal, clockAt, answered}
+use Rattle.rig.specs.OneClock.{theRig}
 use Rattle.rig.specs.declared.rig.Answer.{Answer}
 use Rattle.rig.proofs.OneClock.{answer-passed, next-passed, table-kept, others-always-stay}
-use Rattle.rig_bounds.specs.Demand.{RigCall, rigAnswer, tableAfter, clockBefore, clockBehind, reaches, ownEvents, OnlyTheseChange, AsAlone, EachAsAlone, ReadingOf, ReadingsNear, ReadingsForward, Demand3OfEveryRig, callsInTurn, OneTable}
+use Rattle.rig_bounds.specs.Demand.{RigCall, rigAnswer, tableAfter, clockBefore, clockBehind, reaches, ownEvents, OnlyTheseChange, AsAlone, EachAsAlone, ReadingOf, ReadingsNear, ReadingsForward, Demand3OfEveryRig, PlacedEvent, callsInTurn, OneTable}
 
 -- ---- one call
 
@@ -32,23 +34,23 @@ module _ (k : RigCall) where
   passed = eqb (tableRefusal (length (k .table)) (k .place)) 0
 
   -- the clock that it leaves, by whether it reaches the clock
-  next-by : (named passes : Bool) → eqb (k .place) (k .at) ≡ named → passed ≡ passes → clockBehind k ≡ cond (named && passes) (stepOf (clockBefore k) (k .event) .clock) (clockBefore k)
+  next-by : (named passes : Bool) → eqb (k .place) (k .at) ≡ named → passed ≡ passes → clockBehind theRig k ≡ cond (named && passes) (stepOf (clockBefore k) (k .event) .clock) (clockBefore k)
   next-by true true e t =
       let p : k .place ≡ k .at = eqb-true _ _ e in
-      subst (λ (n : ℕ). clockAt (tableAfter k) n ≡ stepOf (clockAt (k .table) n) (k .event) .clock) p (next-passed (k .table) (k .place) (k .event) t)
+      subst (λ (n : ℕ). clockAt (tableAfter theRig k) n ≡ stepOf (clockAt (k .table) n) (k .event) .clock) p (next-passed (k .table) (k .place) (k .event) t)
   next-by true false e t = ap (λ (cs : List Clock). clockAt cs (k .at)) (table-kept (k .table) (k .place) (k .event) t)
   next-by false passes e t = others-always-stay (k .table) (k .place) (k .event) .others (k .at) (λ q. eqb-false _ _ e (sym q))
 
-  next-is : clockBehind k ≡ cond (reaches k) (stepOf (clockBefore k) (k .event) .clock) (clockBefore k)
+  next-is : clockBehind theRig k ≡ cond (reaches k) (stepOf (clockBefore k) (k .event) .clock) (clockBefore k)
   next-is = next-by (eqb (k .place) (k .at)) passed refl refl
 
   -- and so the clock after its own event, or none
-  after-one : (z : Bool) → reaches k ≡ z → (c : Clock) → clockBefore k ≡ c → (ks : List RigCall) → clockFrom (clockBehind k) (ownEvents ks) ≡ clockFrom c (ownEvents (k ∷ ks))
+  after-one : (z : Bool) → reaches k ≡ z → (c : Clock) → clockBefore k ≡ c → (ks : List RigCall) → clockFrom (clockBehind theRig k) (ownEvents ks) ≡ clockFrom c (ownEvents (k ∷ ks))
   unfolding ownEvents afterBy
   after-one true t c p ks = simp t (ap (λ (d : Clock). clockFrom d (ownEvents ks)) (next-is ∙ simp t (ap (λ (d : Clock). stepOf d (k .event) .clock) p)))
   after-one false t c p ks = simp t (ap (λ (d : Clock). clockFrom d (ownEvents ks)) (next-is ∙ simp t p))
 
-  answer-is : (c : Clock) → clockBefore k ≡ c → reaches k ≡ true → rigAnswer k ≡ answered (stepOf c (k .event))
+  answer-is : (c : Clock) → clockBefore k ≡ c → reaches k ≡ true → rigAnswer theRig k ≡ answered (stepOf c (k .event))
   answer-is c p t =
       let both = and-true (eqb (k .place) (k .at)) passed t in
       answer-passed (k .table) (k .place) (k .event) (both .1)
@@ -76,39 +78,57 @@ own-reading k ks r = simp (r .0) (ap (λ (e : Event). e ∷ ownEvents ks) (r .1)
 -- ---- a list of calls
 
 -- the clock that a call gets
-got : (c : Clock) (before later : List RigCall) (k : RigCall) → OnlyTheseChange c (before ++ (k ∷ later)) → clockBefore k ≡ clockFrom c (ownEvents before)
+got : (c : Clock) (before later : List RigCall) (k : RigCall) → OnlyTheseChange theRig c (before ++ (k ∷ later)) → clockBefore k ≡ clockFrom c (ownEvents before)
 unfolding OnlyTheseChange ownEvents afterBy
 got c [] later k only = only .1
-got c (j ∷ before) later k only = got (clockBehind j) before later k (only .2) ∙ after-one j (reaches j) refl c (only .1) before
+got c (j ∷ before) later k only = got (clockBehind theRig j) before later k (only .2) ∙ after-one j (reaches j) refl c (only .1) before
 
-as-alone : (c : Clock) (before later : List RigCall) (k : RigCall) → OnlyTheseChange c (before ++ (k ∷ later)) → AsAlone c before k
+-- the clock that it leaves
+left : (c : Clock) (before later : List RigCall) (k : RigCall) → OnlyTheseChange theRig c (before ++ (k ∷ later))
+    → clockBehind theRig k ≡ clockFrom c (ownEvents (before ++ (k ∷ [])))
 unfolding ownEvents afterBy
+left c before later k only =
+    after-one k (reaches k) refl (clockFrom c (ownEvents before)) (got c before later k only) []
+    ∙ sym (after-append stepOf c (ownEvents before) (ownEvents (k ∷ [])))
+    ∙ ap (clockFrom c) (sym (own-append before (k ∷ [])))
+
+as-alone : (c : Clock) (before later : List RigCall) (k : RigCall) → OnlyTheseChange theRig c (before ++ (k ∷ later))
+    → AsAlone theRig c before k
 as-alone c before later k only =
     let g = got c before later k only in
     record {
-      got = g;
-      left =
-          after-one k (reaches k) refl (clockFrom c (ownEvents before)) g []
-          ∙ sym (after-append stepOf c (ownEvents before) (ownEvents (k ∷ [])))
-          ∙ ap (clockFrom c) (sym (own-append before (k ∷ [])));
-      answer = answer-is k (clockFrom c (ownEvents before)) g;
+      got = cc g;
+      left = cc (left c before later k only);
+      answer = λ t. cc (answer-is k (clockFrom c (ownEvents before)) g t);
     }
 
-each-as-alone : (c : Clock) (calls : List RigCall) → OnlyTheseChange c calls → EachAsAlone c calls
-each-as-alone c calls only before later k e = as-alone c before later k (subst (OnlyTheseChange c) e only)
+-- A part of a list is found by cases of what stands before it, so that `cc` sees a list that begins with a call.
+each-as-alone : (c : Clock) (calls : List RigCall) → OnlyTheseChange theRig c calls → EachAsAlone theRig c calls
+each-as-alone c calls only [] later k e = as-alone c [] later k (subst (OnlyTheseChange theRig c) (cc e) only)
+each-as-alone c calls only (j ∷ before) later k e = as-alone c (j ∷ before) later k (subst (OnlyTheseChange theRig c) (cc e) only)
 
 -- ---- what the rig answers
 
-module _ (kind : ℕ) (h : kindRange kind ≡ true) (calls : List RigCall) (alone : EachAsAlone (freshClock kind) calls) where
+module _ (kind : ℕ) (h : kindRange kind ≡ true) (calls : List RigCall) (only : OnlyTheseChange theRig (freshClock kind) calls) where
   -- a reading, on the clock by itself
-  read : (before later : List RigCall) (k : RigCall) → calls ≡ before ++ (k ∷ later) → ReadingOf k → rigAnswer k ≡ answered (stepOf (clockAfter kind (ownEvents before)) (Call Reading))
-  read before later k e r = alone before later k e .answer (r .0) ∙ ap (λ (v : Event). answered (stepOf (clockAfter kind (ownEvents before)) v)) (r .1)
+  read : (before later : List RigCall) (k : RigCall) → calls ≡ before ++ (k ∷ later) → ReadingOf k
+      → rigAnswer theRig k ≡ answered (stepOf (clockAfter kind (ownEvents before)) (Call Reading))
+  read before later k e r =
+      let g = got (freshClock kind) before later k (subst (OnlyTheseChange theRig (freshClock kind)) e only) in
+      answer-is k (clockAfter kind (ownEvents before)) g (r .0)
+      ∙ ap (λ (v : Event). answered (stepOf (clockAfter kind (ownEvents before)) v)) (r .1)
 
-  near : ReadingsNear kind calls
-  near before later k e r =
+  near-at : (before later : List RigCall) (k : RigCall) → calls ≡ before ++ (k ∷ later) → ReadingOf k
+      → (rigAnswer theRig k .refusal ≡ 0)
+      × NearExact (measureOf kind) (tells (rigAnswer theRig k .reading)) (bookOf kind (ownEvents before))
+  near-at before later k e r =
       let p = sym (read before later k e r) in
       let first = demand3 .fresh kind h (ownEvents before) .first in
       (subst (λ (a : Answer). a .refusal ≡ 0) p (first .accepted), subst (λ (a : Answer). NearExact (measureOf kind) (tells (a .reading)) (bookOf kind (ownEvents before))) p (first .near))
+
+  near : ReadingsNear theRig kind calls
+  near [] later k e r = near-at [] later k (cc e) r
+  near (j ∷ before) later k e r = near-at (j ∷ before) later k (cc e) r
 
   module _ (before between later : List RigCall) (j k : RigCall) (e : calls ≡ before ++ (j ∷ (between ++ (k ∷ later)))) (rj : ReadingOf j) (rk : ReadingOf k) where
     own-first : ownEvents (before ++ (j ∷ [])) ≡ ownEvents before ++ (Call Reading ∷ [])
@@ -126,10 +146,10 @@ module _ (kind : ℕ) (h : kindRange kind ≡ true) (calls : List RigCall) (alon
         ∙ ap (λ (es : List Event). ownEvents before ++ (Call Reading ∷ es)) (own-append between (k ∷ later) ∙ ap (λ (es : List Event). ownEvents between ++ es) (own-reading k later rk))
 
     -- what the two tell
-    told-first : rigAnswer j ≡ answered (stepOf (clockAfter kind (ownEvents before)) (Call Reading))
+    told-first : rigAnswer theRig j ≡ answered (stepOf (clockAfter kind (ownEvents before)) (Call Reading))
     told-first = read before (between ++ (k ∷ later)) j e rj
 
-    told-second : rigAnswer k ≡ answered (stepOf (clockAfter kind (ownEvents before ++ (Call Reading ∷ ownEvents between))) (Call Reading))
+    told-second : rigAnswer theRig k ≡ answered (stepOf (clockAfter kind (ownEvents before ++ (Call Reading ∷ ownEvents between))) (Call Reading))
     told-second =
         read (before ++ (j ∷ between)) later k (e ∙ sym (append-assoc before (j ∷ between) (k ∷ later))) rk
         ∙ ap (λ (es : List Event). answered (stepOf (clockAfter kind es) (Call Reading))) own-second
@@ -138,7 +158,7 @@ module _ (kind : ℕ) (h : kindRange kind ≡ true) (calls : List RigCall) (alon
     Gone : Clock → Type 0
     Gone c =
         let es = singlyFrom c (ownEvents between) in
-        neitherSetNorInserted c es ≡ true → tells (rigAnswer j .reading) + measureOf kind .least * ticksAmong c es ≤ tells (rigAnswer k .reading)
+        neitherSetNorInserted c es ≡ true → tells (rigAnswer theRig j .reading) + measureOf kind .least * ticksAmong c es ≤ tells (rigAnswer theRig k .reading)
 
     gone : Gone (clockAfter kind (ownEvents before ++ (Call Reading ∷ [])))
     unfolding Gone
@@ -146,27 +166,37 @@ module _ (kind : ℕ) (h : kindRange kind ≡ true) (calls : List RigCall) (alon
         let c = clockAfter kind (ownEvents before ++ (Call Reading ∷ [])) in
         let n : ℕ = measureOf kind .least * ticksAmong c (singlyFrom c (ownEvents between)) in
         let t = demand3 .fresh kind h (ownEvents calls) .third (ownEvents before) (ownEvents between) (ownEvents later) own-all u in
-        subst (λ (a : Answer). tells (a .reading) + n ≤ tells (rigAnswer k .reading)) (sym told-first)
+        subst (λ (a : Answer). tells (a .reading) + n ≤ tells (rigAnswer theRig k .reading)) (sym told-first)
         (subst (λ (a : Answer). tells (answered (stepOf (clockAfter kind (ownEvents before)) (Call Reading)) .reading) + n ≤ tells (a .reading)) (sym told-second) t)
 
     goes : Gone (clockAfter kind (ownEvents (before ++ (j ∷ []))))
     goes = subst (λ (es : List Event). Gone (clockAfter kind es)) (sym own-first) gone
 
-  forward : ReadingsForward kind calls
+  forward : ReadingsForward theRig kind calls
   unfolding Gone
-  forward before between later j k e rj rk = goes before between later j k e rj rk
+  forward [] between later j k e rj rk = goes [] between later j k (cc e) rj rk
+  forward (i ∷ before) between later j k e rj rk = goes (i ∷ before) between later j k (cc e) rj rk
 
-pub demand3-of-rig : Demand3OfEveryRig
+pub demand3-of-rig : Demand3OfEveryRig theRig
+unfolding ownEvents
 demand3-of-rig =
     record {
       fresh = λ kind h calls only.
-          let alone = each-as-alone (freshClock kind) calls only in
-          record { demand = demand3 .fresh kind h (ownEvents calls); alone = alone; near = near kind h calls alone; forward = forward kind h calls alone };
+          record {
+            demand = demand3 .fresh kind h _;
+            alone = each-as-alone (freshClock kind) calls only;
+            near = near kind h calls only;
+            forward = forward kind h calls only;
+          };
       set = λ c calls only s u events e t.
-          record { first = subst (FirstBound stepOf c) (sym e) (demand3 .set c s u events t); alone = each-as-alone c calls only };
+          record {
+            first = subst (FirstBound stepOf c) (cc e) (demand3 .set c s u events t);
+            alone = each-as-alone c calls only;
+          };
     }
 
-pub one-table : OneTable
+pub one-table : OneTable theRig
 unfolding callsInTurn OnlyTheseChange
 one-table at table [] h = tt
-one-table at table (e ∷ es) h = (h, refl, one-table at _ es (subst (λ (l : ℕ). at < l) (sym (others-always-stay table (e .place) (e .event) .length)) h))
+one-table at table (e ∷ es) h =
+    (omega (arith, h), refl, one-table at _ es (omega (arith, h, others-always-stay table (e .place) (e .event) .length)))

@@ -17,7 +17,8 @@ use Rattle.bounds.specs.Calls.{clockFrom, clockAfter, accepted, ticksAmong, nei
 use Rattle.bounds.specs.Singly.{singlyFrom}
 use Rattle.bounds.specs.Measure.{measureOf}
 use Rattle.bounds.specs.Demand.{tells, bookOf, NearExact, FirstBound, Demand3}
-use Rattle.rig.specs.Rig.{tableRefusal, clockAt, answered, answerAt, tableAt}
+use Rattle.rig.specs.Rig.{tableRefusal, clockAt, answered}
+use Rattle.rig.specs.OneClock.{Rig}
 use Rattle.rig.specs.declared.rig.Answer.{Answer}
 
 -- A call on a table that holds a certain clock: the table that the call is lent, where that clock lies in it, and the place and the event of the call.
@@ -28,19 +29,20 @@ pub record RigCall : Type 0 where
   pub place : ℕ
   pub event : Event
 
--- what it answers, and the table that it leaves: `rig::event_at`, by its promises
-abbrev pub rigAnswer : RigCall → Answer
-rigAnswer k = answerAt (k .table) (k .place) (k .event)
+-- What it is answered, and the table that it leaves. As the bounds of a clock, those of a rig are stated of whatever answers; by the rules
+-- that is `theRig`, which `rig::event_at` promises to be.
+abbrev pub rigAnswer : Rig → RigCall → Answer
+rigAnswer rig k = rig .answer (k .table) (k .place) (k .event)
 
-abbrev pub tableAfter : RigCall → List Clock
-tableAfter k = tableAt (k .table) (k .place) (k .event)
+abbrev pub tableAfter : Rig → RigCall → List Clock
+tableAfter rig k = rig .left (k .table) (k .place) (k .event)
 
 -- the clock that it gets, and the clock that it leaves
 abbrev pub clockBefore : RigCall → Clock
 clockBefore k = clockAt (k .table) (k .at)
 
-abbrev pub clockBehind : RigCall → Clock
-clockBehind k = clockAt (tableAfter k) (k .at)
+abbrev pub clockBehind : Rig → RigCall → Clock
+clockBehind rig k = clockAt (tableAfter rig k) (k .at)
 
 -- It reaches the clock: it names its place, and the rig itself does not refuse it.
 abbrev pub reaches : RigCall → Bool
@@ -51,62 +53,67 @@ unfoldable pub ownEvents : List RigCall → List Event
 ownEvents [] = []
 ownEvents (k ∷ ks) = cond (reaches k) (k .event ∷ ownEvents ks) (ownEvents ks)
 
--- "that only these calls change": each call gets the clock as the call before left it, and the first gets c. Nothing else is said of the tables: from one
--- call to the next the clock may lie elsewhere, and other recorders may be set, exchanged, hung on or taken off. A call on a table without the clock is none
--- of the list, since it leaves the clock alone.
-unfoldable pub OnlyTheseChange : Clock → List RigCall → Type 0
-OnlyTheseChange c [] = Unit {0}
-OnlyTheseChange c (k ∷ ks) = (k .at < length (k .table)) × (clockBefore k ≡ c) × OnlyTheseChange (clockBehind k) ks
+-- "that only these calls change": each call gets the clock as the call before left it, and the first gets c. Nothing else is said of the
+-- tables: from one call to the next the clock may lie elsewhere, and other recorders may be set, exchanged, hung on or taken off. A call on
+-- a table without the clock is none of the list, since it leaves the clock alone.
+unfoldable pub OnlyTheseChange : Rig → Clock → List RigCall → Type 0
+OnlyTheseChange rig c [] = Unit {0}
+OnlyTheseChange rig c (k ∷ ks) =
+    (k .at < length (k .table)) × (clockBefore k ≡ c) × OnlyTheseChange rig (clockBehind rig k) ks
 
 -- A call of a list, with those before it, is one on a clock by itself, c at first, to which its own events have happened.
-pub record AsAlone (c : Clock) (before : List RigCall) (k : RigCall) : Type 0 where
+pub record AsAlone (rig : Rig) (c : Clock) (before : List RigCall) (k : RigCall) : Type 0 where
   -- the clock that it gets, and the one that it leaves
   pub got : clockBefore k ≡ clockFrom c (ownEvents before)
-  pub left : clockBehind k ≡ clockFrom c (ownEvents (before ++ (k ∷ [])))
+  pub left : clockBehind rig k ≡ clockFrom c (ownEvents (before ++ (k ∷ [])))
   -- what it answers, where it reaches the clock
-  pub answer : reaches k ≡ true → rigAnswer k ≡ answered (stepOf (clockFrom c (ownEvents before)) (k .event))
+  pub answer : reaches k ≡ true → rigAnswer rig k ≡ answered (stepOf (clockFrom c (ownEvents before)) (k .event))
 
 -- each call of a list
-abbrev pub EachAsAlone : Clock → List RigCall → Type 0
-EachAsAlone c calls = (before later : List RigCall) (k : RigCall) → calls ≡ before ++ (k ∷ later) → AsAlone c before k
+abbrev pub EachAsAlone : Rig → Clock → List RigCall → Type 0
+EachAsAlone rig c calls =
+    (before later : List RigCall) (k : RigCall) → calls ≡ before ++ (k ∷ later) → AsAlone rig c before k
 
 -- a reading of the clock, on the rig
 abbrev pub ReadingOf : RigCall → Type 0
 ReadingOf k = (reaches k ≡ true) × (k .event ≡ Call Reading)
 
 -- The first bound of what the rig answers: a reading is accepted, and near the exact time of the clock's own events before it.
-abbrev pub ReadingsNear : ℕ → List RigCall → Type 0
-ReadingsNear kind calls =
+abbrev pub ReadingsNear : Rig → ℕ → List RigCall → Type 0
+ReadingsNear rig kind calls =
     (before later : List RigCall) (k : RigCall) → calls ≡ before ++ (k ∷ later) → ReadingOf k
-    → (rigAnswer k .refusal ≡ 0) × NearExact (measureOf kind) (tells (rigAnswer k .reading)) (bookOf kind (ownEvents before))
+    → (rigAnswer rig k .refusal ≡ 0)
+    × NearExact (measureOf kind) (tells (rigAnswer rig k .reading)) (bookOf kind (ownEvents before))
 
 -- The third: whichever two readings of the clock, with n of its own ticks and neither a setting nor an inserted second between them.
-abbrev pub ReadingsForward : ℕ → List RigCall → Type 0
-ReadingsForward kind calls =
-    (before between later : List RigCall) (j k : RigCall) → calls ≡ before ++ (j ∷ (between ++ (k ∷ later))) → ReadingOf j → ReadingOf k
+abbrev pub ReadingsForward : Rig → ℕ → List RigCall → Type 0
+ReadingsForward rig kind calls =
+    (before between later : List RigCall) (j k : RigCall)
+    → calls ≡ before ++ (j ∷ (between ++ (k ∷ later))) → ReadingOf j → ReadingOf k
     → let c = clockAfter kind (ownEvents (before ++ (j ∷ []))) in
     let es = singlyFrom c (ownEvents between) in
     neitherSetNorInserted c es ≡ true
-    → tells (rigAnswer j .reading) + measureOf kind .least * ticksAmong c es ≤ tells (rigAnswer k .reading)
+    → tells (rigAnswer rig j .reading) + measureOf kind .least * ticksAmong c es ≤ tells (rigAnswer rig k .reading)
 
 -- Demand 3 of a clock that is lent fresh, of a kind: of its own events, and so of what the rig answers.
-pub record Demand3OfRigClock (kind : ℕ) (calls : List RigCall) : Type 0 where
+pub record Demand3OfRigClock (rig : Rig) (kind : ℕ) (calls : List RigCall) : Type 0 where
   pub demand : Demand3 stepOf kind (ownEvents calls)
-  pub alone : EachAsAlone (freshClock kind) calls
-  pub near : ReadingsNear kind calls
-  pub forward : ReadingsForward kind calls
+  pub alone : EachAsAlone rig (freshClock kind) calls
+  pub near : ReadingsNear rig kind calls
+  pub forward : ReadingsForward rig kind calls
 
 -- its first bound, of a clock that is lent as it is
-pub record FirstBoundOfRigClock (c : Clock) (calls : List RigCall) : Type 0 where
+pub record FirstBoundOfRigClock (rig : Rig) (c : Clock) (calls : List RigCall) : Type 0 where
   pub first : FirstBound stepOf c (ownEvents calls)
-  pub alone : EachAsAlone c calls
+  pub alone : EachAsAlone rig c calls
 
-pub record Demand3OfEveryRig : Type 0 where
-  pub fresh : (kind : ℕ) → kindRange kind ≡ true → (calls : List RigCall) → OnlyTheseChange (freshClock kind) calls → Demand3OfRigClock kind calls
+pub record Demand3OfEveryRig (rig : Rig) : Type 0 where
+  pub fresh : (kind : ℕ) → kindRange kind ≡ true → (calls : List RigCall) → OnlyTheseChange rig (freshClock kind) calls
+      → Demand3OfRigClock rig kind calls
   -- Req 06: the first bound also "for lists that begin with an accepted setting on any clock"
-  pub set : (c : Clock) (calls : List RigCall) → OnlyTheseChange c calls
-      → (s : ℕ) (u : AskedMicros) (events : List Event) → ownEvents calls ≡ Call (Setting s u) ∷ events → accepted c (Setting s u) ≡ true
-      → FirstBoundOfRigClock c calls
+  pub set : (c : Clock) (calls : List RigCall) → OnlyTheseChange rig c calls
+      → (s : ℕ) (u : AskedMicros) (events : List Event) → ownEvents calls ≡ Call (Setting s u) ∷ events
+      → accepted c (Setting s u) ≡ true → FirstBoundOfRigClock rig c calls
 
 -- ---- one table, lent again and again
 
@@ -116,12 +123,14 @@ pub record PlacedEvent : Type 0 where
   pub event : Event
 
 -- the calls, each of which gets the table as the call before left it, as the clock at a place sees them
-unfoldable pub callsInTurn : ℕ → List Clock → List PlacedEvent → List RigCall
-callsInTurn at table [] = []
-callsInTurn at table (e ∷ es) =
+unfoldable pub callsInTurn : Rig → ℕ → List Clock → List PlacedEvent → List RigCall
+callsInTurn rig at table [] = []
+callsInTurn rig at table (e ∷ es) =
     let k : RigCall = record { table = table; at = at; place = e .place; event = e .event } in
-    k ∷ callsInTurn at (tableAfter k) es
+    k ∷ callsInTurn rig at (tableAfter rig k) es
 
 -- Then only these calls change any of its clocks.
-abbrev pub OneTable : Type 0
-OneTable = (at : ℕ) (table : List Clock) (events : List PlacedEvent) → at < length table → OnlyTheseChange (clockAt table at) (callsInTurn at table events)
+abbrev pub OneTable : Rig → Type 0
+OneTable rig =
+    (at : ℕ) (table : List Clock) (events : List PlacedEvent) → at < length table
+    → OnlyTheseChange rig (clockAt table at) (callsInTurn rig at table events)

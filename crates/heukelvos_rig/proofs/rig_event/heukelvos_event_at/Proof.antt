@@ -65,8 +65,8 @@ use Rattle.rig.proofs.event_at as callee
 use Rattle.rig.proofs.event_at.Symbol as callee-def
 use Rattle.rig.proofs.event_at.Symbol.{name as #callee}
 use Rattle.rig.proofs.event_at.Met as callee-thm
-use Rattle.rig.proofs.Answered.{is-value, answered}
-use Rattle.rig.proofs.Refusals.{is-zero, not-zero}
+use Rattle.lending.proofs.Answered.{is-value, answered}
+use Rattle.lending.proofs.Refusals.{is-zero, not-zero}
 use Rattle.rig.proofs.LentTable.{Left, ends, given-up-whole, meets}
 use Rattle.heukelvos_rig.proofs.rig_event.heukelvos_event_at.Key.{name as #this}
 use Rattle.heukelvos_rig.proofs.rig_event.heukelvos_event_at as f

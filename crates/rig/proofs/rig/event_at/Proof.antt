@@ -68,10 +68,10 @@ use Rattle.rig.proofs.rig.parted_step as callee
 use Rattle.rig.proofs.rig.parted_step.Symbol as callee-def
 use Rattle.rig.proofs.rig.parted_step.Symbol.{name as #callee}
 use Rattle.rig.proofs.rig.parted_step.Met as callee-thm
-use Rattle.rig.proofs.Answered.{is-value, answered}
+use Rattle.lending.proofs.Answered.{is-value, answered}
 use Rattle.rig.proofs.Place.{within}
-use Rattle.rig.proofs.Refusals.{is-zero, not-zero}
-use Rattle.rig.proofs.LentTable.{Left, ends, given-up, meets}
+use Rattle.lending.proofs.Refusals.{is-zero, not-zero}
+use Rattle.rig.proofs.LentTable.{clockBytes, scaled, Left, ends, given-up, meets}
 use Rattle.event.proofs.Kept.{step-same}
 use Rattle.rig.proofs.rig.event_at.Key.{name as #this}
 use Rattle.rig.proofs.rig.event_at as f
@@ -98,9 +98,6 @@ module _ (ys : List Clock) (i : ℕ) (e : Event) where
     kept-says t =
         let same : r .clock ≡ h = ap (λ (s : Parted). s .clock) p ∙ step-same h e (ap (λ (s : Parted). eqb (s .answer .refusal) 0) (sym p) ∙ not-zero (r .answer .refusal) t) in
         (done-says .0, ap (set ys i) (sym same) ∙ done-says .1)
-
-scaled : (n i : ℕ) → n * 52 < 2 ^ 63 → i < n → i * 52 < 2 ^ 64
-scaled n i room l = omega arith
 
 -- ---- machine values
 abbrev valC : Clock → Val
@@ -215,15 +212,15 @@ module _ {M : Type 1} (𝓤 : URA M) (H : Heap 𝓤) (A : Atoms 𝓤) (W : Given
       Around = (AnswerTy, l₀) ∷ (Slice, l₁) ∷ (tyInt w64, l₂) ∷ (τ₃, l₃) ∷ (τ₄, l₄) ∷ (PartedTy, l₅) ∷ (tyInt w64, l₆) ∷ (τ₇, l₇) ∷ (τ₈, l₈) ∷ (τ₉, l₉) ∷ (tyPtr, l₁₀) ∷ []
 
       -- where the event is accepted, its clock is stored; what it does not use may be any local
-      stores : (h : Clock) (r : Parted) → i < length ys → i * 52 < 2 ^ 64 → IsAnswer (r .answer) → IsClock (r .clock)
+      stores : (h : Clock) (r : Parted) → i < length ys → i * clockBytes < 2 ^ 64 → IsAnswer (r .answer) → IsClock (r .clock)
           → ent 𝓤 (⋆ 𝓤 H A (‵ (finally T.the-row γ (set ys i (r .clock))) ∷ ‵ (flft κ q) ∷ [])) (P (valN (r .answer)))
-          → Sq W (‵ (cellAt fullShare (T.the-row .mir) (valC h ∷ []) b (index.place 52 o i)) ∷ ‵ (T.the-row .own h (valC h ∷ [])) ∷ ‵ (index.others (shares T.the-row) fullShare ys i b o) ∷ ‵ (fobor κ q (Held T.the-row (length ys) b o γ)) ∷ ‵ (fobs γ (codedHoleys T.the-row .code (heres T.the-row ys))) ∷ ‵ (fauth γ (codedHoleys T.the-row .code (heres T.the-row ys)))
-          ∷ ‵ (froom tyPtr l₁₀ 0) ∷ ‵ (fdies tyPtr l₁₀) ∷ ‵ (fat fullShare τ₉ l₉ 0 v₉) ∷ ‵ (fdies τ₉ l₉) ∷ ‵ (fat fullShare τ₈ l₈ 0 v₈) ∷ ‵ (fdies τ₈ l₈) ∷ ‵ (fat fullShare τ₇ l₇ 0 v₇) ∷ ‵ (fdies τ₇ l₇) ∷ ‵ (fat fullShare (tyInt w64) l₆ 0 (vint w64 (i * 52))) ∷ ‵ (fdies (tyInt w64) l₆) ∷ ‵ (fat fullShare PartedTy l₅ 0 (valR r)) ∷ ‵ (fdies PartedTy l₅)
+          → Sq W (‵ (cellAt fullShare (T.the-row .mir) (valC h ∷ []) b (index.place clockBytes o i)) ∷ ‵ (T.the-row .own h (valC h ∷ [])) ∷ ‵ (index.others (shares T.the-row) fullShare ys i b o) ∷ ‵ (fobor κ q (Held T.the-row (length ys) b o γ)) ∷ ‵ (fobs γ (codedHoleys T.the-row .code (heres T.the-row ys))) ∷ ‵ (fauth γ (codedHoleys T.the-row .code (heres T.the-row ys)))
+          ∷ ‵ (froom tyPtr l₁₀ 0) ∷ ‵ (fdies tyPtr l₁₀) ∷ ‵ (fat fullShare τ₉ l₉ 0 v₉) ∷ ‵ (fdies τ₉ l₉) ∷ ‵ (fat fullShare τ₈ l₈ 0 v₈) ∷ ‵ (fdies τ₈ l₈) ∷ ‵ (fat fullShare τ₇ l₇ 0 v₇) ∷ ‵ (fdies τ₇ l₇) ∷ ‵ (fat fullShare (tyInt w64) l₆ 0 (vint w64 (i * clockBytes))) ∷ ‵ (fdies (tyInt w64) l₆) ∷ ‵ (fat fullShare PartedTy l₅ 0 (valR r)) ∷ ‵ (fdies PartedTy l₅)
           ∷ ‵ (fat fullShare τ₄ l₄ 0 v₄) ∷ ‵ (fdies τ₄ l₄) ∷ ‵ (fat fullShare τ₃ l₃ 0 v₃) ∷ ‵ (fdies τ₃ l₃) ∷ ‵ (fat fullShare (tyInt w64) l₂ 0 (vint w64 i)) ∷ ‵ (fdies (tyInt w64) l₂) ∷ ‵ (fat fullShare Slice l₁ 0 s) ∷ ‵ (fdies Slice l₁) ∷ ‵ (froom AnswerTy l₀ 0) ∷ ‵ (fdies AnswerTy l₀) ∷ []) (runs C Λ Around mir.t-11 (atRet Around P))
       stores h r l fits is new end =
           assigns ! (bin ! (load ! (from ! (stop !)) (look ! 22 refl)) (lit ! tt) (record { fits = fits })) (from ! (stop !)) (store ! 14 refl (tt, record { fits = fits })) $
           assigns ! (bin ! (load ! (from ! (fld ! refl (stop !))) (look-in ! 24 (sub ! 0 refl (whole !)))) (load ! (from ! (stop !)) (look ! 14 refl)) tt) (from ! (stop !)) (init ! 6 refl (tt, tt)) $
-          rewrite ! 6 (λ (k : ℕ). ‵ (fat fullShare tyPtr l₁₀ 0 (vptr b k))) (sym (place-is 52 o i)) refl $
+          rewrite ! 6 (λ (k : ℕ). ‵ (fat fullShare tyPtr l₁₀ 0 (vptr b k))) (sym (place-is clockBytes o i)) refl $
           assigns ! (of-opd ! (load ! (from ! (fld ! refl (stop !))) (look-in ! 16 (sub ! 1 refl (whole !))))) (from ! (hop ! (look ! 6 refl) (stop !))) (store-raw ! 0 refl (L.lawful T.the-type T′.the-laws 𝓤 H A W .typed (r .clock) _ new .0)) $
           assigns ! (of-opd ! (load ! (from ! (fld ! refl (stop !))) (look-in ! 16 (sub ! 0 refl (whole !))))) (from ! (stop !)) (init ! 26 refl (L.lawful N.the-type N′.the-laws 𝓤 H A W .typed (r .answer) _ is .0)) $
           move ! (1 ∷ []) $ drop ! $ owned ! T.the-row (Is T.the-row) (L.makes T.the-type T′.the-plain 𝓤 H A) (r .clock) _ new $ move ! (1 ∷ 0 ∷ []) $ elem-put ! T.the-row fullShare ys i (r .clock) (valC (r .clock) ∷ []) b o l $
@@ -235,9 +232,9 @@ module _ {M : Type 1} (𝓤 : URA M) (H : Heap 𝓤) (A : Atoms 𝓤) (W : Given
     En = (AnswerTy, l₀) ∷ (Slice, l₁) ∷ (tyInt w64, l₂) ∷ (EventTy, l₃) ∷ (AnswerTy, l₄) ∷ (PartedTy, l₅) ∷ (tyInt w64, l₆) ∷ (tyBool, l₇) ∷ (tyPtr, l₈) ∷ (ClockTy, l₉) ∷ (tyPtr, l₁₀) ∷ []
 
     -- the clock h at the place has been taken out of the table, which is open
-    asks : (h : Clock) → h ≡ clockAt ys i → IsClock h → (a : Answer) (y : Bool) → FmC 𝓤 H (W .laws) C → Triple 𝓤 (C #callee) (Callee 𝓤 H A at-mem run) → tableRefusal (length ys) i ≡ 0 → i < length ys → i * 52 < 2 ^ 64
-        → Sq W (‵ (cellAt fullShare (T.the-row .mir) (valC h ∷ []) b (index.place 52 o i)) ∷ ‵ (T.the-row .own h (valC h ∷ [])) ∷ ‵ (index.others (shares T.the-row) fullShare ys i b o) ∷ ‵ (fobor κ q (Held T.the-row (length ys) b o γ)) ∷ ‵ (fobs γ (codedHoleys T.the-row .code (heres T.the-row ys))) ∷ ‵ (fauth γ (codedHoleys T.the-row .code (heres T.the-row ys)))
-        ∷ ‵ (froom tyPtr l₁₀ 0) ∷ ‵ (fdies tyPtr l₁₀) ∷ ‵ (froom ClockTy l₉ 0) ∷ ‵ (fdies ClockTy l₉) ∷ ‵ (fat fullShare tyPtr l₈ 0 (vptr b (index.place 52 o i))) ∷ ‵ (fdies tyPtr l₈) ∷ ‵ (fat fullShare tyBool l₇ 0 (vbool y)) ∷ ‵ (fdies tyBool l₇) ∷ ‵ (fat fullShare (tyInt w64) l₆ 0 (vint w64 (i * 52))) ∷ ‵ (fdies (tyInt w64) l₆) ∷ ‵ (froom PartedTy l₅ 0) ∷ ‵ (fdies PartedTy l₅)
+    asks : (h : Clock) → h ≡ clockAt ys i → IsClock h → (a : Answer) (y : Bool) → FmC 𝓤 H (W .laws) C → Triple 𝓤 (C #callee) (Callee 𝓤 H A at-mem run) → tableRefusal (length ys) i ≡ 0 → i < length ys → i * clockBytes < 2 ^ 64
+        → Sq W (‵ (cellAt fullShare (T.the-row .mir) (valC h ∷ []) b (index.place clockBytes o i)) ∷ ‵ (T.the-row .own h (valC h ∷ [])) ∷ ‵ (index.others (shares T.the-row) fullShare ys i b o) ∷ ‵ (fobor κ q (Held T.the-row (length ys) b o γ)) ∷ ‵ (fobs γ (codedHoleys T.the-row .code (heres T.the-row ys))) ∷ ‵ (fauth γ (codedHoleys T.the-row .code (heres T.the-row ys)))
+        ∷ ‵ (froom tyPtr l₁₀ 0) ∷ ‵ (fdies tyPtr l₁₀) ∷ ‵ (froom ClockTy l₉ 0) ∷ ‵ (fdies ClockTy l₉) ∷ ‵ (fat fullShare tyPtr l₈ 0 (vptr b (index.place clockBytes o i))) ∷ ‵ (fdies tyPtr l₈) ∷ ‵ (fat fullShare tyBool l₇ 0 (vbool y)) ∷ ‵ (fdies tyBool l₇) ∷ ‵ (fat fullShare (tyInt w64) l₆ 0 (vint w64 (i * clockBytes))) ∷ ‵ (fdies (tyInt w64) l₆) ∷ ‵ (froom PartedTy l₅ 0) ∷ ‵ (fdies PartedTy l₅)
         ∷ ‵ (fat fullShare AnswerTy l₄ 0 (valN a)) ∷ ‵ (fdies AnswerTy l₄) ∷ ‵ (fat fullShare EventTy l₃ 0 (EL.val E.the-type E′.the-laws e)) ∷ ‵ (fdies EventTy l₃) ∷ ‵ (fat fullShare (tyInt w64) l₂ 0 (vint w64 i)) ∷ ‵ (fdies (tyInt w64) l₂) ∷ ‵ (fat fullShare Slice l₁ 0 s) ∷ ‵ (fdies Slice l₁) ∷ ‵ (froom AnswerTy l₀ 0) ∷ ‵ (fdies AnswerTy l₀) ∷ []) (runs C Λ En mir.t-7 (atRet En Post))
     asks h h-is was a y fm known z l fits =
         assigns ! (of-opd ! (load ! (from ! (hop ! (look ! 10 refl) (stop !))) (look-raw ! 0 refl))) (from ! (stop !)) (init ! 8 refl (L.lawful T.the-type T′.the-laws 𝓤 H A W .typed h _ was .0)) $
@@ -257,13 +254,13 @@ module _ {M : Type 1} (𝓤 : URA M) (H : Heap 𝓤) (A : Atoms 𝓤) (W : Given
         (λ t. skips ! $ exec ! C Λ _ mir.t-11 (atRet _ Post) $ stores Post EventTy AnswerTy tyBool tyPtr ClockTy _ _ _ _ _ h r l fits (in-answer r u is) (in-clock r u is) (exits (r .answer) (set ys i (r .clock)) (length-set ys i (r .clock)) (in-answer r u is) (done-says ys i e h h-is r z p)))))
 
     -- where the table and the place are not refused
-    steps : (a : Answer) (y : Bool) → FmC 𝓤 H (W .laws) C → Triple 𝓤 (C #callee) (Callee 𝓤 H A at-mem run) → tableRefusal (length ys) i ≡ 0 → i < length ys → i * 52 < 2 ^ 64
+    steps : (a : Answer) (y : Bool) → FmC 𝓤 H (W .laws) C → Triple 𝓤 (C #callee) (Callee 𝓤 H A at-mem run) → tableRefusal (length ys) i ≡ 0 → i < length ys → i * clockBytes < 2 ^ 64
         → Sq W (‵ (froom tyPtr l₁₀ 0) ∷ ‵ (fdies tyPtr l₁₀) ∷ ‵ (froom ClockTy l₉ 0) ∷ ‵ (fdies ClockTy l₉) ∷ ‵ (froom tyPtr l₈ 0) ∷ ‵ (fdies tyPtr l₈) ∷ ‵ (fat fullShare tyBool l₇ 0 (vbool y)) ∷ ‵ (fdies tyBool l₇) ∷ ‵ (fat fullShare (tyInt w64) l₆ 0 (vint w64 (length ys))) ∷ ‵ (fdies (tyInt w64) l₆) ∷ ‵ (froom PartedTy l₅ 0) ∷ ‵ (fdies PartedTy l₅) ∷ ‵ (fat fullShare AnswerTy l₄ 0 (valN a)) ∷ ‵ (fdies AnswerTy l₄) ∷ ‵ (fat fullShare EventTy l₃ 0 (EL.val E.the-type E′.the-laws e)) ∷ ‵ (fdies EventTy l₃) ∷ ‵ (fat fullShare (tyInt w64) l₂ 0 (vint w64 i)) ∷ ‵ (fdies (tyInt w64) l₂) ∷ ‵ (fat fullShare Slice l₁ 0 s) ∷ ‵ (fdies Slice l₁) ∷ ‵ (froom AnswerTy l₀ 0) ∷ ‵ (fdies AnswerTy l₀)
         ∷ ‵ (fobs γ (codedHoleys T.the-row .code (heres T.the-row ys))) ∷ ‵ (fbor κ (Held T.the-row (length ys) b o γ)) ∷ ‵ (flft κ q) ∷ []) (runs C Λ En mir.t-5 (atRet En Post))
     steps a y fm known z l fits =
         assigns ! (bin ! (load ! (from ! (stop !)) (look ! 16 refl)) (lit ! tt) (record { fits = fits })) (from ! (stop !)) (store ! 8 refl (tt, record { fits = fits })) $
         assigns ! (bin ! (load ! (from ! (fld ! refl (stop !))) (look-in ! 18 (sub ! 0 refl (whole !)))) (load ! (from ! (stop !)) (look ! 8 refl)) tt) (from ! (stop !)) (init ! 4 refl (tt, tt)) $
-        rewrite ! 4 (λ (k : ℕ). ‵ (fat fullShare tyPtr l₈ 0 (vptr b k))) (sym (place-is 52 o i)) refl $
+        rewrite ! 4 (λ (k : ℕ). ‵ (fat fullShare tyPtr l₈ 0 (vptr b k))) (sym (place-is clockBytes o i)) refl $
         -- the table is opened, and the clock at the place is taken out of it
         move ! (22 ∷ 23 ∷ 24 ∷ []) $ opens-slice ! tt T.the-row ys b o $
         elem-out ! T.the-row (Is T.the-row) (shows 𝓤 H A T.the-row) (L.vals T.the-type T′.the-laws) (L.tells T.the-type T′.the-laws) fullShare ys i _ b o l (λ was. asks _ refl was a y fm known z l fits)

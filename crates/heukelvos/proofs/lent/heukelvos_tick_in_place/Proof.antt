@@ -1,4 +1,4 @@
--- `heukelvos::heukelvos_tick`: a walk of its MIR, over the by-value tick.
+-- `heukelvos::heukelvos_tick_in_place`: a walk of its MIR, over the by-value tick.
 use mathlib.Core.Path.{_≡_, refl, sym, _∙_, ap, subst}
 use mathlib.Core.Bool.{cond, false}
 use lib.Dec.{eqb}
@@ -48,12 +48,12 @@ use Rattle.clock.proofs.tick.Symbol.{name as #tick}
 use Rattle.clock.proofs.tick.Met as tick-thm
 use Rattle.event.proofs.Kept.{tick-same}
 use Rattle.heukelvos.proofs.Kept.{kept}
-use Rattle.rig.proofs.Answered.{is-value, answered}
+use Rattle.lending.proofs.Answered.{is-value, answered}
 use Rattle.heukelvos.proofs.InPlace.{value, IsClock, opened, handed-back, stored-if, either-clock, as-answered, Left, ends, meets}
-use Rattle.heukelvos.proofs.lent.heukelvos_tick.Key.{name as #this}
-use Rattle.heukelvos.proofs.lent.heukelvos_tick as f
-use Rattle.heukelvos.proofs.lent.heukelvos_tick.Statement as stated
-use Rattle.heukelvos.proofs.lent.heukelvos_tick.Code as code
+use Rattle.heukelvos.proofs.lent.heukelvos_tick_in_place.Key.{name as #this}
+use Rattle.heukelvos.proofs.lent.heukelvos_tick_in_place as f
+use Rattle.heukelvos.proofs.lent.heukelvos_tick_in_place.Statement as stated
+use Rattle.heukelvos.proofs.lent.heukelvos_tick_in_place.Code as code
 
 in-clock : (r : Outcome) (v : Val) → Is R.the-row r (v ∷ []) → IsClock (r .clock)
 in-clock r v is = L.owed R.the-type R′.the-laws r (v ∷ []) is .1 .0
@@ -123,9 +123,9 @@ met 𝓤 H A W at-mem run 𝓣 known =
     meets 𝓤 H A W [] tt u8 (f.clauses 𝓤 H A at-mem run) tt 𝓣 code.function (λ _. tt) (λ _. tt)
     (λ κ q b o γ h _ _ _. via 𝓤 _ (fst∗ 𝓤 _ (emp 𝓤)) (walk 𝓤 H A W at-mem run κ q b o γ h (𝓣 .C) (𝓣 .Λ) (fmOf 𝓤 H (W .laws) 𝓣) known))
 
-pub heukelvos-tick-spec : {M : Type 1} → stated.statement M
+pub heukelvos-tick-in-place-spec : {M : Type 1} → stated.statement M
 unfolding code.routine tablesOf
-heukelvos-tick-spec 𝓤 H 𝓜 𝓖 𝓡 =
+heukelvos-tick-in-place-spec 𝓤 H 𝓜 𝓖 𝓡 =
     entered 𝓤 H (tripleOf 𝓤 H (𝓖 .A) f.signature (f.spec 𝓤 H (𝓖 .A) (𝓜 .mem) (𝓡 .run)))
     (tables 𝓤 H 𝓜 𝓡 code.env .C) (tables 𝓤 H 𝓜 𝓡 code.env .Λ) #this code.function (code.unfolded 𝓤 H 𝓜 𝓡)
     (met 𝓤 H (𝓖 .A) (givenOf 𝓤 H 𝓜 𝓖) (𝓜 .mem) (𝓡 .run) (tablesOf 𝓤 H 𝓜 (tables 𝓤 H 𝓜 𝓡 code.env))

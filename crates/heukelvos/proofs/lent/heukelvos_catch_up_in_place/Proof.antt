@@ -1,4 +1,4 @@
--- `heukelvos::heukelvos_catch_up`: a walk of its MIR, over the by-value catch-up.
+-- `heukelvos::heukelvos_catch_up_in_place`: a walk of its MIR, over the by-value catch-up.
 use mathlib.Core.Path.{_≡_, refl, sym, _∙_, ap, subst}
 use Prim.Native.Nat.{ℕ, _<_, _^_}
 use mathlib.Core.Bool.{Bool, cond, false}
@@ -55,12 +55,12 @@ use Rattle.heukelvos.proofs.lent.caught_up.Symbol.{name as #callee}
 use Rattle.heukelvos.proofs.lent.caught_up.Met as callee-thm
 use Rattle.event.proofs.Kept.{catch-up-same}
 use Rattle.heukelvos.proofs.Kept.{kept}
-use Rattle.rig.proofs.Answered.{is-value, answered}
+use Rattle.lending.proofs.Answered.{is-value, answered}
 use Rattle.heukelvos.proofs.InPlace.{value, IsClock, opened, handed-back, stored-if, either-clock, as-answered, Left, ends, meets}
-use Rattle.heukelvos.proofs.lent.heukelvos_catch_up.Key.{name as #this}
-use Rattle.heukelvos.proofs.lent.heukelvos_catch_up as f
-use Rattle.heukelvos.proofs.lent.heukelvos_catch_up.Statement as stated
-use Rattle.heukelvos.proofs.lent.heukelvos_catch_up.Code as code
+use Rattle.heukelvos.proofs.lent.heukelvos_catch_up_in_place.Key.{name as #this}
+use Rattle.heukelvos.proofs.lent.heukelvos_catch_up_in_place as f
+use Rattle.heukelvos.proofs.lent.heukelvos_catch_up_in_place.Statement as stated
+use Rattle.heukelvos.proofs.lent.heukelvos_catch_up_in_place.Code as code
 
 -- the other parameters' slots, and how each is kept
 abbrev others : List (Slot 1)
@@ -153,9 +153,9 @@ met 𝓤 H A W at-mem run 𝓣 known =
     meets 𝓤 H A W others all-kept N.the-row (f.clauses 𝓤 H A at-mem run) (λ κs x l. refl, (λ κs x l. refl, tt)) 𝓣 code.function (λ _. (uint-vals w64, (bool-vals, tt))) (λ _. (uint-tells w64, (bool-tells, tt)))
     (λ κ q b o γ h ys _ are. via 𝓤 _ (fst∗ 𝓤 _ (emp 𝓤)) (walk 𝓤 H A W at-mem run κ q b o γ h (ys .0) (ys .1 .0) (𝓣 .C) (𝓣 .Λ) (fmOf 𝓤 H (W .laws) 𝓣) known (are .0 .1)))
 
-pub heukelvos-catch-up-spec : {M : Type 1} → stated.statement M
+pub heukelvos-catch-up-in-place-spec : {M : Type 1} → stated.statement M
 unfolding code.routine tablesOf
-heukelvos-catch-up-spec 𝓤 H 𝓜 𝓖 𝓡 =
+heukelvos-catch-up-in-place-spec 𝓤 H 𝓜 𝓖 𝓡 =
     entered 𝓤 H (tripleOf 𝓤 H (𝓖 .A) f.signature (f.spec 𝓤 H (𝓖 .A) (𝓜 .mem) (𝓡 .run)))
     (tables 𝓤 H 𝓜 𝓡 code.env .C) (tables 𝓤 H 𝓜 𝓡 code.env .Λ) #this code.function (code.unfolded 𝓤 H 𝓜 𝓡)
     (met 𝓤 H (𝓖 .A) (givenOf 𝓤 H 𝓜 𝓖) (𝓜 .mem) (𝓡 .run) (tablesOf 𝓤 H 𝓜 (tables 𝓤 H 𝓜 𝓡 code.env))

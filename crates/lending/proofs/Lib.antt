@@ -1,0 +1,3 @@
+pub mod Answered
+pub mod Others
+pub mod Refusals

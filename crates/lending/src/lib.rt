@@ -1,0 +1,1 @@
+// What the proofs of functions that are lent something share, in proofs/: this crate has no code.
