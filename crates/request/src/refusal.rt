@@ -17,8 +17,8 @@ use crate::request::ADJ_STATUS;
 use crate::request::ADJ_TIMECONST;
 use crate::request::MIN_INTERVAL;
 use crate::request::Request;
-use clock::Clock;
-use clock::in_range;
+use state::Clock;
+use state::in_range;
 
 pub(crate) fn is_set(mode: u64, bit: u64) -> bool
     requires { ⌜ 0 < bit ⌝ }
