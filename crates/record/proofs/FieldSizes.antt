@@ -17,7 +17,6 @@ use Rattle.record.specs.Layout.{newest, knownVersion, reftimeRange, coun
 use Rattle.record.specs.Inner.{mappedPhase, mappedOffset, mappedFrequency, mappedParts}
 use Rattle.record.proofs.Ranges.{phase-test, offset-test, frequency-test, parts-test, between-small}
 
-
 -- a field of values 0 to most, in k + 1 bytes
 pub below : (k most : ℕ) → most < 128 ^ suc k → (n : ℕ) → leb n most ≡ true → n < 128 ^ suc k
 below k most l n e = omega (arith, leb-true n most e)
