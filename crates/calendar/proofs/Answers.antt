@@ -12,8 +12,8 @@ use Rattle.calendar.proofs.Closed.{date-right}
 
 pub one-answer : OneAnswer FoundAs
 one-answer d (Day n) (Day k) (found h p) (found l q) = ap Day (one-day n k (sym p ∙ q))
-one-answer d (Day n) NoDay (found h p) (none f) = absurd (f n h p)
-one-answer d NoDay (Day k) (none f) (found l q) = absurd (f k l q)
+one-answer d (Day n) NoDay (found h p) (none f) = absurd (f n (omega arith) p)
+one-answer d NoDay (Day k) (none f) (found l q) = absurd (f k (omega arith) q)
 one-answer d NoDay NoDay (none f) (none g) = refl
 
 -- .. which one that allows every answer has not

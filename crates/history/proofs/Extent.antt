@@ -34,10 +34,10 @@ module _ (s : List ℕ) (at : ℕ) where
   cond-ends false x y p q = q
 
   first : {v k : ℕ} → numberAt s at ≡ number v k → Past s at k
-  first {v} {k} e = let x : Extent s at v k = extent s at v k e in record { after = x .after; within = x .within }
+  first {v} {k} e = let x : Extent s at v k = extent s at v k e in record { after = omega arith; within = omega arith }
 
   number-past : {p v k : ℕ} → Past s at p → numberAt s p ≡ number v k → Past s at k
-  number-past {p} {v} {k} h e = let x : Extent s p v k = extent s p v k e in record { after = omega arith; within = x .within }
+  number-past {p} {v} {k} h e = let x : Extent s p v k = extent s p v k e in record { after = omega arith; within = omega arith }
 
   chosen-past : (b : Bool) {p v k : ℕ} → Past s at p → cond b (numberAt s p) (number 0 p) ≡ number v k → Past s at k
   chosen-past true h e = number-past h e

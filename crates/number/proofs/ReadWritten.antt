@@ -63,6 +63,6 @@ read-written s rest n at b e =
     let h : Here s at (128 + n % 128) (bytesFrom 3 (n / 128) ++ rest) = here s at _ _ (rw (from-more 3 n l) at e) in
     rw (from-more 3 n l)
     (first-more s at (128 + n % 128) (h .inside) (h .item) (omega arith)
-    ∙ ap (before (128 + n % 128)) (later-read s rest 3 (n / 128) (at + 1) (omega arith) (shorter 4 n b) (h .rest))
+    ∙ ap (before (128 + n % 128)) (later-read s rest 3 (n / 128) (at + 1) (omega arith) (shorter 4 n (omega arith)) (h .rest))
     ∙ joined n at (length (bytesFrom 3 (n / 128)))))
     (either (ltb n 128))

@@ -102,7 +102,7 @@ size-table n h =
     by-limit n (2 ^ 14) (size-exact 1 n (omega arith) l1) (λ l2.
     by-limit n (2 ^ 21) (size-exact 2 n (omega arith) l2) (λ l3.
     by-limit n (2 ^ 28) (size-exact 3 n (omega arith) l3) (λ l4.
-    size-exact 4 n (omega arith) l4 h))))
+    size-exact 4 n (omega arith) l4 (omega arith)))))
 
 -- never more than five
 from-most : (f n : ℕ) → length (bytesFrom f n) ≤ suc f

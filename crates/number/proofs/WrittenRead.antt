@@ -71,7 +71,7 @@ module _ (s : List ℕ) (bytes : Bytes s) where
       → ((w : ℕ) → laterAt (suc f) s (at + 1) ≡ number w next → HoldsLater f s (at + 1) w next) → HoldsLater (suc f) s at v next
   more-before f at v next h l r go =
       let w : HoldsLater f s (at + 1) (r .value) next = go (r .value) (r .told) in
-      let b : getD s at 0 < 256 = bytes at in
+      let b : getD s at 0 < 256 = omega (arith, bytes at) in
       let lv : 128 ≤ v = omega (arith, r .is, w .some) in
       let ev : v / 128 ≡ r .value = omega (arith, r .is) in
       let em : 128 + v % 128 ≡ getD s at 0 = omega (arith, r .is) in

@@ -60,12 +60,12 @@ longest-of version last e long =
     let k = choose recordLayout sizes (greatest version last) e in
     let same = sym (places-picked k) ∙ choose-picked recordLayout sizes (greatest version last) e in
     record {
-      none = λ c flag last w. no-record-longer w;
+      none = λ c flag last w. omega (arith, no-record-longer w);
       one = stands recordLayout k;
       flag = flag-of k;
       last = last-of k;
       says = said k;
-      long = ap (λ (ns : List ℕ). length (bytesOfAll (written recordLayout ns))) same ∙ long;
+      long = omega (arith, ap (λ (ns : List ℕ). length (bytesOfAll (written recordLayout ns))) same, long);
     }
 
 pub longest : Longest

@@ -17,7 +17,8 @@ refusal-known s e = rw e at (known s recordLayout 0)
 
 fair-found : (s : List ℕ) (x : Outcome Clock) → readFrom recordLayout s 0 ≡ x → (restored x .refusal ≡ 0) ⊎ Refused (restored x)
 fair-found s (got c) e = inl refl
-fair-found s (failed r) e = inr (record { number = refusal-known s e; fresh = refl })
+fair-found s (failed r) e =
+    inr (record { number = (omega (arith, refusal-known s e .0), omega (arith, refusal-known s e .1)); fresh = refl })
 
 pub refused-is-fresh : RefusedIsFresh readingOf
 unfolding readingOf
@@ -31,4 +32,4 @@ pub exactly-when : ExactlyWhen readingOf
 unfolding readingOf
 exactly-when s r some =
     let w = layout-exactly-when Clock recordLayout s 0 r in
-    record { only = λ e. w .only (refused-so s r some (readFrom recordLayout s 0) refl e); always = λ h. ap restored (w .always h) }
+    record { only = λ e. w .only (refused-so s r (omega arith) (readFrom recordLayout s 0) refl e); always = λ h. ap restored (w .always h) }

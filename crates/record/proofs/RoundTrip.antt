@@ -38,7 +38,7 @@ reads-back version c flag last w = ap restored (read-back recordLayout (choice w
 
 pub nothing-follows : NothingFollows readingOf
 unfolding readingOf
-nothing-follows version c flag last rest w h = ap restored (read-more recordLayout (choice w) h (ahead w refl))
+nothing-follows version c flag last rest w h = ap restored (read-more recordLayout (choice w) (omega arith) (ahead w refl))
 
 -- from version 2 on a record holds the clock's own update
 pub says-own : (version : ℕ) (c : Clock) → knownVersion version ≡ true → eqb version 1 ≡ false → inRange c ≡ true → suits (holdsKind version) kindRange (c .kind) ≡ true
