@@ -6,11 +6,10 @@ use lib.IntN.{pos}
 use Rattle.state.specs.Units.{micros, offsetUnits, phaseUnits, phaseParts}
 use Rattle.state.specs.Device.{deviceOf}
 use Rattle.state.specs.State.{inRange, lastSecond, lastMicro, statusBad, tuningOf, whole, noUpdate, greatestErrors}
-use Rattle.state.specs.Refusal.{refusedState, refusedTime, refuse}
+use Rattle.state.specs.Refusal.{refusedState, refusedTime, refuse, answer}
 use Rattle.state.specs.declared.state.Clock.{Clock}
 use Rattle.state.specs.declared.units.AskedMicros.{AskedMicros}
 use Rattle.state.specs.declared.outcome.Outcome.{Outcome}
-use Rattle.clock.specs.Refusal.{answer}
 use Rattle.clock.specs.Rollover.{division, adjustmentFor}
 
 -- "Both replaced; phase and offset left 0; no earlier update; adjustment as at a rollover with share 0; both errors 16,000,000;

@@ -8,13 +8,12 @@ use lib.Signed.{leZ, quotZ}
 use Rattle.state.specs.Units.{micros, phaseUnits, phaseParts, phaseUnitsPerMicro, microsPerSecond}
 use Rattle.state.specs.Device.{deviceOf}
 use Rattle.state.specs.State.{inRange, lastSecond, correctionOf, tuningOf, updateOf, errorsOf, whole}
-use Rattle.state.specs.Refusal.{refusedState, refusedLast, refuse}
+use Rattle.state.specs.Refusal.{refusedState, refusedLast, refuse, answer}
 use Rattle.state.specs.declared.units.Micros.{Micros}
 use Rattle.state.specs.declared.units.PhaseUnits.{PhaseUnits}
 use Rattle.state.specs.declared.units.PhaseParts.{PhaseParts}
 use Rattle.state.specs.declared.state.Clock.{Clock}
 use Rattle.state.specs.declared.outcome.Outcome.{Outcome}
-use Rattle.clock.specs.Refusal.{answer}
 use Rattle.clock.specs.Rollover.{rolledOver}
 
 -- "each tick adds the one to the other" (parts of a phase unit)

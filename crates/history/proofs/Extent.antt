@@ -1,7 +1,7 @@
 -- Every event that is read ends after its first byte, and no later than the bytes do.
 use mathlib.Core.Path.{_≡_, refl}
 use mathlib.Core.Bool.{Bool, true, false, cond}
-use mathlib.Core.List.{List}
+use mathlib.Core.List.{List, []}
 use Prim.Native.Nat.{ℕ, _%_, _<_, _≤_}
 use native.Mathlib.Omega.{arith}
 use lib.Dec.{eqb}
@@ -9,20 +9,19 @@ use lib.ListN.{length}
 use Rattle.number.specs.Reading.{Found as Number, number, numberAt}
 use Rattle.number.specs.Reading.{refused as noNumber}
 use Rattle.number.specs.Sequence.{then}
-use Rattle.number.proofs.Extent.{Extent, extent}
+use Rattle.number.specs.Properties.{Extent}
+use Rattle.number.proofs.Extent.{extent}
 use Rattle.request.specs.Request.{bitSet}
+use Rattle.event.specs.declared.event.Call.the-variants.{Reading}
 use Rattle.history.specs.declared.Event.{Event}
+use Rattle.history.specs.declared.Event.the-variants.{Call}
+use Rattle.history.specs.Properties.{Past, EndsPast, ShutOut}
 use Rattle.history.specs.Event.{Found, found, refused, fieldAt, ticksAt, settingAt, requestAt, argumentsAt, eventAt}
 
 module _ (s : List ℕ) (at : ℕ) where
-  -- a place after `at`, at most at the end
-  pub record Past (k : ℕ) : Type 0 where
-    pub after : at < k
-    pub within : k ≤ length s
-
   -- what is said of an event at `at`, of whatever it is
   abbrev pub Ends : Found → Type 0
-  Ends (found e next) = Past next
+  Ends (found e next) = Past s at next
   Ends (refused n) = Unit {0}
 
   then-ends : (x : Number) (go : ℕ → ℕ → Found) → ((v k : ℕ) → x ≡ number v k → Ends (go v k)) → Ends (then refused x go)
@@ -34,21 +33,21 @@ module _ (s : List ℕ) (at : ℕ) where
   cond-ends true x y p q = p
   cond-ends false x y p q = q
 
-  first : {v k : ℕ} → numberAt s at ≡ number v k → Past k
-  first {v} {k} e = let x : Extent s at v k = extent s at e in record { after = x .after; within = x .within }
+  first : {v k : ℕ} → numberAt s at ≡ number v k → Past s at k
+  first {v} {k} e = let x : Extent s at v k = extent s at v k e in record { after = omega arith; within = omega arith }
 
-  number-past : {p v k : ℕ} → Past p → numberAt s p ≡ number v k → Past k
-  number-past {p} {v} {k} h e = let x : Extent s p v k = extent s p e in record { after = omega arith; within = x .within }
+  number-past : {p v k : ℕ} → Past s at p → numberAt s p ≡ number v k → Past s at k
+  number-past {p} {v} {k} h e = let x : Extent s p v k = extent s p v k e in record { after = omega arith; within = omega arith }
 
-  chosen-past : (b : Bool) {p v k : ℕ} → Past p → cond b (numberAt s p) (number 0 p) ≡ number v k → Past k
+  chosen-past : (b : Bool) {p v k : ℕ} → Past s at p → cond b (numberAt s p) (number 0 p) ≡ number v k → Past s at k
   chosen-past true h e = number-past h e
   chosen-past false {p} {v} {k} h e = let i : p ≡ k = cc in record { after = omega arith; within = omega arith }
 
-  field-past : (mode bit : ℕ) {p v k : ℕ} → Past p → fieldAt mode bit s p ≡ number v k → Past k
+  field-past : (mode bit : ℕ) {p v k : ℕ} → Past s at p → fieldAt mode bit s p ≡ number v k → Past s at k
   unfolding fieldAt
   field-past mode bit h e = chosen-past (bitSet mode bit) h e
 
-  module _ {p : ℕ} (h : Past p) where
+  module _ {p : ℕ} (h : Past s at p) where
     ticks-ends : Ends (ticksAt s p)
     unfolding ticksAt
     ticks-ends = then-ends _ _ (λ v k e. number-past h e)
@@ -88,9 +87,17 @@ module _ (s : List ℕ) (at : ℕ) where
   unfolding eventAt
   event-ends = then-ends _ _ (λ code k e. arguments-end (first e) code)
 
-  ends-of : (x : Found) {e : Event} {k : ℕ} → x ≡ found e k → Ends x → Past k
+  ends-of : (x : Found) {e : Event} {k : ℕ} → x ≡ found e k → Ends x → Past s at k
   ends-of (found f next) {e} {k} i h = let j : next ≡ k = cc in record { after = omega arith; within = omega arith }
   ends-of (refused n) i h = let z : _≡_ {A = ℕ} 0 1 = cc in absurd (omega arith)
 
-  pub event-past : {e : Event} {k : ℕ} → eventAt s at ≡ found e k → Past k
-  event-past i = ends-of (eventAt s at) i event-ends
+pub event-past : EndsPast eventAt
+event-past s at e k i = ends-of s at (eventAt s at) i (event-ends s at)
+
+-- the readers that it shuts out
+pub shut-out : ShutOut
+shut-out =
+    record {
+      noByte = λ h. absurd (omega (arith, h [] 0 (Call Reading) 0 refl .after));
+      behind = λ h. absurd (omega (arith, h [] 0 (Call Reading) 1 refl .within));
+    }

@@ -5,7 +5,6 @@ ghost use Rattle.number.specs.Reading.{told as Number·told};
 ghost use Rattle.number.specs.Inner.{refusedAs};
 ghost use Rattle.history.specs.declared.Event.the-variants.{Call};
 ghost use Rattle.history.specs.Event.{found, refused, told, offsetAsked, frequencyAsked, fieldAt, ticksAt, settingAt, requestAt, eventAt};
-use clock::AskedMicros;
 use number::Decoded;
 use number::unmap;
 use request::ADJ_ESTERROR;
@@ -17,6 +16,7 @@ use request::ADJ_TIMECONST;
 use request::AskedFrequency;
 use request::AskedOffset;
 use request::Request;
+use state::AskedMicros;
 
 // An event of a history.
 pub enum Event {

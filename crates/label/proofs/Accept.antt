@@ -11,7 +11,7 @@ use lib.ListN.{length}
 use Rattle.integers.proofs.Ranges.{and-true}
 use Rattle.state.specs.declared.state.Clock.{Clock}
 use Rattle.state.specs.Device.{kind256, deviceOf}
-use Rattle.state.specs.State.{inRange, freshClock, lastSecond, statusOop, statusBad}
+use Rattle.state.specs.State.{inRange, freshClock, lastSecond, statusOop, statusBad, correctionOf, tuningOf, updateOf, errorsOf, whole}
 use Rattle.state.proofs.Ok.{ok}
 use Rattle.state.specs.Units.{secondsPerDay, lastSecondOfDay}
 use Rattle.calendar.specs.declared.Date.{Date}
@@ -20,10 +20,9 @@ use Rattle.calendar.specs.declared.Found.the-variants.{Day, NoDay}
 use Rattle.calendar.specs.Calendar.{dateOf, days}
 use Rattle.calendar.specs.Search.{FoundAs, found, none}
 use Rattle.calendar.proofs.Dates.{one-day, same-parts}
-use Rattle.label.specs.declared.Answer.{Answer}
 use Rattle.label.specs.declared.fields.Time.the-variants.{At, NoTime}
 use Rattle.label.specs.Label.{labelOf, isSixty, labelSize}
-use Rattle.label.specs.Reading.{WrittenFor, ReadsAs, accepted, refused}
+use Rattle.label.specs.Reading.{label, noLabel, WrittenFor, ReadsAs, accepted, refused}
 use Rattle.label.specs.Inner.{pairAt, isMarked, dateAt, AlikeDate, ShownBy, shown, unshown}
 use Rattle.label.proofs.Digits.{alike-small, small-alike}
 use Rattle.label.proofs.Parts.{Ranges, ranges}
@@ -40,28 +39,24 @@ pub clock-says : {c : Clock} {text : List ℕ} → WrittenFor c text → Says te
 clock-says {c} w = says (omega (arith, ok c (w .sound) .seconds)) (sixty-last c) (w .bytes)
 
 -- a clock that shows second s, with a 60 or without
+abbrev fresh : Clock
+fresh = freshClock kind256
+
 abbrev pub clockAt : ℕ → Bool → Clock
 clockAt s sixty =
-    record {
+    whole
+    (record {
       kind = kind256;
-      seconds = s;
-      micros = freshClock kind256 .micros;
-      phase = freshClock kind256 .phase;
-      offset = freshClock kind256 .offset;
-      frequency = freshClock kind256 .frequency;
-      adjustment = freshClock kind256 .adjustment;
-      constant = freshClock kind256 .constant;
-      updated = freshClock kind256 .updated;
-      interval = freshClock kind256 .interval;
-      maxerror = freshClock kind256 .maxerror;
-      esterror = freshClock kind256 .esterror;
+      time = record { seconds = s; micros = fresh .micros; phase = fresh .phase; leftover = fresh .leftover };
+      correction = correctionOf fresh;
+      tuning = tuningOf fresh;
+      update = updateOf fresh;
+      errors = errorsOf fresh;
       status = cond sixty statusOop statusBad;
-      remainder = freshClock kind256 .remainder;
-      leftover = freshClock kind256 .leftover;
-    }
+    })
 
 module _ (s : ℕ) (h : s ≤ lastSecond) where
-  clock-sound : (sixty : Bool) → inRange (clockAt s sixty) ≡ true
+  pub clock-sound : (sixty : Bool) → inRange (clockAt s sixty) ≡ true
   unfolding deviceOf inRange
   clock-sound true = rw (le-leb s lastSecond (omega arith))
   clock-sound false = rw (le-leb s lastSecond (omega arith))
@@ -71,12 +66,6 @@ module _ (s : ℕ) (h : s ≤ lastSecond) where
   clock-sixty false l = refl
 
 -- ---- the answers
-
-abbrev pub label : ℕ → Bool → Answer
-label s sixty = record { refusal = 0; seconds = s; sixty = sixty }
-
-abbrev pub noLabel : Answer
-noLabel = record { refusal = 15; seconds = 0; sixty = false }
 
 -- bytes that are the label of a second are accepted
 pub accepts : {text : List ℕ} (s : ℕ) (sixty : Bool) → s ≤ lastSecond → (sixty ≡ true → s % secondsPerDay ≡ lastSecondOfDay) → text ≡ labelOf s sixty

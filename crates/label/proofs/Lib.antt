@@ -7,3 +7,4 @@ pub mod DayTime
 pub mod Bytes
 pub mod Accept
 pub mod RoundTrip
+pub mod Examples

@@ -1,6 +1,6 @@
 -- What the reader answers.
 use mathlib.Core.Path.{_≡_}
-use mathlib.Core.Bool.{true, false}
+use mathlib.Core.Bool.{Bool, true, false}
 use mathlib.Core.List.{List}
 use Prim.Native.Nat.{ℕ}
 use Rattle.state.specs.declared.state.Clock.{Clock}
@@ -13,8 +13,14 @@ pub record WrittenFor (c : Clock) (text : List ℕ) : Type 0 where
   pub sound : inRange c ≡ true
   pub bytes : text ≡ clockLabel c
 
--- "The reader accepts exactly the strings of twenty bytes that the writer can write, and gives seconds and whether it was a 60";
--- 15 "not a label", and "a refused label second 0 and no 60"
+-- an accepted label's answer, and that of bytes that are none: 15 "not a label", and "a refused label second 0 and no 60"
+abbrev pub label : ℕ → Bool → Answer
+label s sixty = record { refusal = 0; seconds = s; sixty = sixty }
+
+abbrev pub noLabel : Answer
+noLabel = record { refusal = 15; seconds = 0; sixty = false }
+
+-- "The reader accepts exactly the strings of twenty bytes that the writer can write, and gives seconds and whether it was a 60"
 pub data ReadsAs (text : List ℕ) : Answer → Type 0 where
-  accepted : {c : Clock} → WrittenFor c text → ReadsAs text (record { refusal = 0; seconds = c .seconds; sixty = isSixty c })
-  refused : ((c : Clock) → WrittenFor c text → ⊥) → ReadsAs text (record { refusal = 15; seconds = 0; sixty = false })
+  accepted : {c : Clock} → WrittenFor c text → ReadsAs text (label (c .seconds) (isSixty c))
+  refused : ((c : Clock) → WrittenFor c text → ⊥) → ReadsAs text noLabel

@@ -10,11 +10,11 @@ ghost use Rattle.label.specs.Writing.{writeRefusal, writtenTo, Readable}
 ghost use Rattle.label.specs.Reading.{ReadsAs};
 use crate::fields::Time;
 use calendar::Found;
-use clock::Clock;
-use clock::LAST_SECOND;
-use clock::SECONDS_PER_DAY;
-use clock::TIME_OOP;
-use clock::in_range;
+use state::Clock;
+use state::LAST_SECOND;
+use state::SECONDS_PER_DAY;
+use state::TIME_OOP;
+use state::in_range;
 
 // Bytes of a label.
 const SIZE: usize = 20;

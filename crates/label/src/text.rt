@@ -12,7 +12,7 @@ ghost use Rattle.label.specs.Inner.{dateText, timeText};
 use crate::units::MINUTES_PER_HOUR;
 use crate::units::SECONDS_PER_HOUR;
 use crate::units::SECONDS_PER_MINUTE;
-use clock::SECONDS_PER_DAY;
+use state::SECONDS_PER_DAY;
 
 // The digit 0 and the marks between pairs of digits, in ASCII.
 const ZERO: u64 = 0x30;

@@ -1,5 +1,5 @@
 // The units of time that a label counts in.
-use clock::SECONDS_PER_DAY;
+use state::SECONDS_PER_DAY;
 
 pub(crate) const SECONDS_PER_MINUTE: u32 = 60;
 

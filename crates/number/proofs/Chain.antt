@@ -3,6 +3,7 @@
 use mathlib.Core.Path.{_≡_, sym, _∙_, ap}
 use mathlib.Core.List.{List, [], _∷_, _++_, append-assoc}
 use Prim.Native.Nat.{ℕ, _+_, _-_, _<_, _≤_}
+use native.Mathlib.Omega.{arith}
 use lib.ListN.{length, drop, drop-of-length-le, length-drop}
 use Rattle.number.specs.Form.{limit, bytesOf, bytesOfAll}
 use Rattle.number.specs.Reading.{number, numberAt}
@@ -21,7 +22,7 @@ module _ {s : List ℕ} {at n : ℕ} {ns after : List ℕ} (a : Ahead s at (n �
   apart = a .is ∙ append-assoc (bytesOf n) (bytesOfAll ns) after
 
   pub ahead-first : n < limit → numberAt s at ≡ number n (at + length (bytesOf n))
-  ahead-first b = read-written s (bytesOfAll ns ++ after) n at b apart
+  ahead-first b = read-written s (bytesOfAll ns ++ after) n at (omega arith) apart
 
   pub ahead-rest : Ahead s (at + length (bytesOf n)) ns after
   ahead-rest = record { is = behind-written s (bytesOfAll ns ++ after) n at apart }

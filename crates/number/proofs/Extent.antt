@@ -11,7 +11,7 @@ use lib.Dec.{leb}
 use lib.ListN.{length, take, drop, length-drop}
 use lib.Seq.{length-take-le}
 use borrow.Author.Tests.{leb-false}
-use Rattle.number.specs.Form.{limit}
+use Rattle.number.specs.Properties.{Extends, RefusedOnly}
 use Rattle.number.specs.Reading.{Found, number, refused, leadingMore, valueOf, longForm, judged, numberAt}
 use Rattle.number.proofs.Steps.{checked, never}
 
@@ -33,15 +33,9 @@ unfolding valueOf
 value-below [] = omega arith
 value-below (b ∷ bs) = omega (arith, value-below bs, pow-succ' 128 (length bs))
 
-pub record Extent (s : List ℕ) (at v next : ℕ) : Type 0 where
-  pub small : v < limit
-  pub after : at < next
-  pub most : next ≤ at + 5
-  pub within : next ≤ length s
-
-pub extent : (s : List ℕ) (at : ℕ) {v next : ℕ} → numberAt s at ≡ number v next → Extent s at v next
+pub extent : Extends numberAt
 unfolding numberAt judged
-extent s at {v} {next} e =
+extent s at v next e =
     let bs = drop at s in
     let k = leadingMore bs in
     let c = checked-number (leb 5 k) (leb (length bs) k) (longForm bs k) (number (valueOf (take (suc k) bs)) (at + suc k)) e in
@@ -59,9 +53,9 @@ extent s at {v} {next} e =
       within = omega (arith, length-drop at s);
     }
 
-pub refused-only : (s : List ℕ) (at : ℕ) {r : ℕ} → numberAt s at ≡ refused r → (r ≡ 10) ⊎ (r ≡ 11)
+pub refused-only : RefusedOnly numberAt
 unfolding numberAt judged
-refused-only s at e =
+refused-only s at r e =
     let bs = drop at s in
     let k = leadingMore bs in
     checked-refused (leb 5 k) (leb (length bs) k) (longForm bs k) (valueOf (take (suc k) bs)) (at + suc k) e

@@ -10,10 +10,10 @@ use Prim.Native.Nat.{ℕ, suc, _+_, _^_, _<_, _≤_}
 use native.Mathlib.Nat.{pow-le-pow-right}
 use native.Mathlib.Omega.{arith}
 use lib.Dec.{ltb}
-use lib.ListN.{length, getD}
+use lib.ListN.{length}
 use borrow.Author.Tests.{ltb-true, ltb-false, lt-ltb, le-ltb, eqb-true}
 use Rattle.integers.proofs.Ranges.{and-true, true-and}
-use Rattle.number.specs.Form.{limit, bytesOfAll}
+use Rattle.number.specs.Form.{limit, Bytes, bytesOfAll}
 use Rattle.number.specs.Reading.{Found, number, refused, numberAt}
 use Rattle.number.specs.Sequence.{then}
 use Rattle.number.specs.Inner.{refusedAs}
@@ -177,10 +177,10 @@ pub record Taken {A : Type 0} (l : Layout A) (s : List ℕ) (at : ℕ) (saved : 
   pub is : stands l choice ≡ saved
 
 -- no failure is what was saved
-not-failed : {A P : Type 0} {x : Outcome A} {r : ℕ} {saved : A} → x ≡ failed r → x ≡ got saved → P
+pub not-failed : {A P : Type 0} {x : Outcome A} {r : ℕ} {saved : A} → x ≡ failed r → x ≡ got saved → P
 not-failed e f = let z : _≡_ {A = ℕ} 0 1 = cc in absurd (omega arith)
 
-module _ {A : Type 0} (s : List ℕ) (bytes : (i : ℕ) → getD s i 0 < 256) (saved : A) where
+module _ {A : Type 0} (s : List ℕ) (bytes : Bytes s) (saved : A) where
   was-found : {P : Type 0} (range : ℕ → Bool) (at : ℕ) (go : ℕ → ℕ → Outcome A) (x : Found) → numberAt s at ≡ x
       → then failed (fieldAt range s at) go ≡ got saved
       → ((n next : ℕ) → Holds s at n next → range n ≡ true → go n next ≡ got saved → P) → P
@@ -217,7 +217,7 @@ Known (got saved) = Unit {0}
 Known (failed r) = (10 ≤ r) × (r ≤ 13)
 
 refused-known : (s : List ℕ) (at : ℕ) {r : ℕ} → numberAt s at ≡ refused r → (10 ≤ r) × (r ≤ 13)
-refused-known s at e = ⊎-elim (λ h. (omega arith, omega arith)) (λ h. (omega arith, omega arith)) (refused-only s at e)
+refused-known s at e = ⊎-elim (λ h. (omega arith, omega arith)) (λ h. (omega arith, omega arith)) (refused-only s at _ e)
 
 module _ {A : Type 0} (s : List ℕ) where
   known-found : (range : ℕ → Bool) (at : ℕ) (go : ℕ → ℕ → Outcome A) (x : Found) → numberAt s at ≡ x → ((n next : ℕ) → Known (go n next))
@@ -253,13 +253,12 @@ module _ (range : ℕ → Bool) (s : List ℕ) (at r : ℕ) where
       (either (range v))
   fails-only (refused n) e f = inl (e ∙ f)
 
-pub field-exactly-when : FieldExactlyWhen
+pub field-exactly-when : FieldExactlyWhen fieldAt
 unfolding fieldAt judgedBy
 field-exactly-when range s at r =
     record {
       only = fails-only range s at r (numberAt s at) refl;
       unread = λ e. ap (judgedBy range) e;
-      shape = refused-only s at;
       outside = λ o. ap (judgedBy range) (o .read) ∙ simp (o .out);
     }
 
@@ -292,7 +291,7 @@ module _ {A : Type 0} (s : List ℕ) (r : ℕ) where
       h
   stops-so (whole saved) at h = simp (lt-ltb at (length s) (h .0)) (ap failed (sym (h .1)))
 
-pub layout-exactly-when : LayoutExactlyWhen
+pub layout-exactly-when : LayoutExactlyWhen (λ A l s at. readFrom l s at)
 layout-exactly-when A l s at r = record { only = stops s r l at; always = stops-so s r l at }
 
 -- ---- how the reading of a record goes: the laws of `Sequence` at a field, whatever the reader makes of the outcome

@@ -1,13 +1,17 @@
 -- Laws on tests and on lists that the laws of the number rest on.
 use mathlib.Core.Path.{_≡_, refl, _∙_, ap}
-use mathlib.Core.Bool.{Bool, true, false}
+use mathlib.Core.Bool.{Bool, true, false, _&&_}
 use mathlib.Core.List.{List, [], _∷_, _++_}
 use mathlib.Core.Logic.{_⊎_, inl, inr}
 use Prim.Native.Nat.{ℕ, zero, suc, _+_, _<_}
 use native.Mathlib.Numerals.{add-one}
 use native.Mathlib.Omega.{arith}
+use lib.Dec.{ltb}
 use lib.ListN.{length, getD, drop, set}
 use lib.Seq.{sets, drop-cons}
+use borrow.Author.Tests.{ltb-true}
+use Rattle.integers.proofs.Ranges.{and-true}
+use Rattle.number.specs.Form.{Bytes}
 
 -- a test is true or false
 pub either : (b : Bool) → (b ≡ true) ⊎ (b ≡ false)
@@ -36,3 +40,15 @@ here (y ∷ s) (suc at) x xs e =
 pub sets-append : (l : List ℕ) (i : ℕ) (vs ws : List ℕ) → sets (sets l i vs) (i + length vs) ws ≡ sets l i (vs ++ ws)
 sets-append l i [] ws = ap (λ (k : ℕ). sets l k ws) (omega arith)
 sets-append l i (v ∷ vs) ws = ap (λ (k : ℕ). sets (sets (set l i v) (suc i) vs) k ws) (omega arith) ∙ sets-append (set l i v) (suc i) vs ws
+
+-- ---- bytes, by a test
+
+unfoldable pub areBytes : List ℕ → Bool
+areBytes [] = true
+areBytes (b ∷ s) = ltb b 256 && areBytes s
+
+pub bytes-by : (s : List ℕ) → areBytes s ≡ true → Bytes s
+unfolding areBytes
+bytes-by [] e i = omega arith
+bytes-by (b ∷ s) e zero = ltb-true b 256 (and-true (ltb b 256) (areBytes s) e .0)
+bytes-by (b ∷ s) e (suc i) = bytes-by s (and-true (ltb b 256) (areBytes s) e .1) i

@@ -8,7 +8,8 @@ use lib.Dec.{ltb}
 use lib.ListN.{length, drop}
 use lib.Seq.{drop-drop, drop-append-seam}
 use borrow.Author.Tests.{ltb-true, ltb-false}
-use Rattle.number.specs.Form.{limit, bytesFrom, bytesOf}
+use Rattle.number.specs.Form.{bytesFrom, bytesOf}
+use Rattle.number.specs.Properties.{ReadsWritten}
 use Rattle.number.specs.Reading.{number, numberAt}
 use Rattle.number.specs.Inner.{laterAt}
 use Rattle.number.proofs.Lists.{either, Here, here}
@@ -45,23 +46,23 @@ module _ (s rest : List ℕ) where
       ∙ joined n at (length (bytesFrom f (n / 128)))))
       (either (ltb n 128))
 
-  pub read-written : (n at : ℕ) → n < limit → drop at s ≡ bytesOf n ++ rest → numberAt s at ≡ number n (at + length (bytesOf n))
-  unfolding bytesOf
-  read-written n at b e =
-      ⊎-elim
-      (λ t.
-      let l : n < 128 = ltb-true n 128 t in
-      let h : Here s at n rest = here s at _ _ (rw (from-last 4 n l) at e) in
-      rw (from-last 4 n l) (first-last s at n (h .inside) (h .item) l))
-      (λ t.
-      let l : 128 ≤ n = ltb-false n 128 t in
-      let h : Here s at (128 + n % 128) (bytesFrom 3 (n / 128) ++ rest) = here s at _ _ (rw (from-more 3 n l) at e) in
-      rw (from-more 3 n l)
-      (first-more s at (128 + n % 128) (h .inside) (h .item) (omega arith)
-      ∙ ap (before (128 + n % 128)) (later-read 3 (n / 128) (at + 1) (omega arith) (shorter 4 n b) (h .rest))
-      ∙ joined n at (length (bytesFrom 3 (n / 128)))))
-      (either (ltb n 128))
-
-  -- .. and what stood behind it follows
+  -- what stood behind a number follows it
   pub behind-written : (n at : ℕ) → drop at s ≡ bytesOf n ++ rest → drop (at + length (bytesOf n)) s ≡ rest
   behind-written n at e = sym (drop-drop (length (bytesOf n)) at s) ∙ ap (drop (length (bytesOf n))) e ∙ drop-append-seam (bytesOf n) rest
+
+pub read-written : ReadsWritten numberAt
+unfolding bytesOf
+read-written s rest n at b e =
+    ⊎-elim
+    (λ t.
+    let l : n < 128 = ltb-true n 128 t in
+    let h : Here s at n rest = here s at _ _ (rw (from-last 4 n l) at e) in
+    rw (from-last 4 n l) (first-last s at n (h .inside) (h .item) l))
+    (λ t.
+    let l : 128 ≤ n = ltb-false n 128 t in
+    let h : Here s at (128 + n % 128) (bytesFrom 3 (n / 128) ++ rest) = here s at _ _ (rw (from-more 3 n l) at e) in
+    rw (from-more 3 n l)
+    (first-more s at (128 + n % 128) (h .inside) (h .item) (omega arith)
+    ∙ ap (before (128 + n % 128)) (later-read s rest 3 (n / 128) (at + 1) (omega arith) (shorter 4 n (omega arith)) (h .rest))
+    ∙ joined n at (length (bytesFrom 3 (n / 128)))))
+    (either (ltb n 128))

@@ -12,6 +12,7 @@ use lib.ListN.{length, getD, drop, set, length-append, drop-of-length-le}
 use lib.Seq.{drop-cons, sets}
 use borrow.Author.Tests.{ltb-true, ltb-false, le-ltb, lt-ltb}
 use Rattle.number.specs.Form.{limit, bytesFrom, bytesOf, bytesOfAll}
+use Rattle.number.specs.Properties.{SizeTable}
 use Rattle.number.proofs.Lists.{either, sets-append}
 
 -- ---- the bytes of a number
@@ -95,15 +96,13 @@ by-limit : (n m : ℕ) {x y z : ℕ} → (n < m → x ≡ y) → (m ≤ n → x 
 by-limit n m f g =
     ⊎-elim (λ (t : ltb n m ≡ true). simp t (f (ltb-true n m t))) (λ (t : ltb n m ≡ false). simp t (g (ltb-false n m t))) (either (ltb n m))
 
--- 1 byte below 2^7, 2 below 2^14, 3 below 2^21, 4 below 2^28, 5 below 2^35
-pub size-table : (n : ℕ) → n < limit
-    → length (bytesOf n) ≡ cond (ltb n (2 ^ 7)) 1 (cond (ltb n (2 ^ 14)) 2 (cond (ltb n (2 ^ 21)) 3 (cond (ltb n (2 ^ 28)) 4 5)))
+pub size-table : SizeTable (λ n. length (bytesOf n))
 size-table n h =
     by-limit n (2 ^ 7) (size-last n) (λ l1.
     by-limit n (2 ^ 14) (size-exact 1 n (omega arith) l1) (λ l2.
     by-limit n (2 ^ 21) (size-exact 2 n (omega arith) l2) (λ l3.
     by-limit n (2 ^ 28) (size-exact 3 n (omega arith) l3) (λ l4.
-    size-exact 4 n (omega arith) l4 h))))
+    size-exact 4 n (omega arith) l4 (omega arith)))))
 
 -- never more than five
 from-most : (f n : ℕ) → length (bytesFrom f n) ≤ suc f

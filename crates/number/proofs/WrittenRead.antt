@@ -10,7 +10,8 @@ use lib.Dec.{ltb, leb, eqb}
 use lib.ListN.{length, getD, take, drop}
 use lib.Seq.{take-append-seam}
 use borrow.Author.Tests.{ltb-true, ltb-false, leb-true, leb-false, eqb-true, eqb-false}
-use Rattle.number.specs.Form.{limit, bytesFrom, bytesOf}
+use Rattle.number.specs.Form.{limit, Bytes, bytesFrom, bytesOf}
+use Rattle.number.specs.Properties.{OneForm}
 use Rattle.number.specs.Reading.{Found, number, refused, numberAt}
 use Rattle.number.specs.Inner.{laterAt}
 use Rattle.number.proofs.Lists.{either, opened}
@@ -43,7 +44,7 @@ rest-of b v next (refused n) e = let z : _≡_ {A = ℕ} 0 1 = cc in absurd (ome
 at-least : (f : ℕ) → 128 ≤ 128 ^ suc f
 at-least f = omega (arith, pow-succ' 128 f, one-le-pow f 128 (omega arith))
 
-module _ (s : List ℕ) (bytes : (i : ℕ) → getD s i 0 < 256) where
+module _ (s : List ℕ) (bytes : Bytes s) where
   -- a number of one byte
   single : (f at v next : ℕ) → at < length s → v < 128 → v ≡ getD s at 0 → at + 1 ≡ next → drop at s ≡ bytesFrom f v ++ drop next s
   single f at v next h l ev en =
@@ -70,7 +71,7 @@ module _ (s : List ℕ) (bytes : (i : ℕ) → getD s i 0 < 256) where
       → ((w : ℕ) → laterAt (suc f) s (at + 1) ≡ number w next → HoldsLater f s (at + 1) w next) → HoldsLater (suc f) s at v next
   more-before f at v next h l r go =
       let w : HoldsLater f s (at + 1) (r .value) next = go (r .value) (r .told) in
-      let b : getD s at 0 < 256 = bytes at in
+      let b : getD s at 0 < 256 = omega (arith, bytes at) in
       let lv : 128 ≤ v = omega (arith, r .is, w .some) in
       let ev : v / 128 ≡ r .value = omega (arith, r .is) in
       let em : 128 + v % 128 ≡ getD s at 0 = omega (arith, r .is) in
@@ -126,6 +127,6 @@ module _ (s : List ℕ) (bytes : (i : ℕ) → getD s i 0 < 256) where
       record { small = w .small; bytes = w .bytes; within = w .within })
       (either (ltb (getD s at 0) 128))
 
-  -- the bytes there are those that would be written
-  pub one-form : (at v next : ℕ) → numberAt s at ≡ number v next → take (length (bytesOf v)) (drop at s) ≡ bytesOf v
-  one-form at v next e = ap (take (length (bytesOf v))) (written-read at v next e .bytes) ∙ take-append-seam (bytesOf v) (drop next s)
+-- the bytes there are those that would be written
+pub one-form : OneForm numberAt
+one-form s bytes at v next e = ap (take (length (bytesOf v))) (written-read s bytes at v next e .bytes) ∙ take-append-seam (bytesOf v) (drop next s)

@@ -3,8 +3,9 @@
 -- below 2^35; a byte is a number below 256.
 use mathlib.Core.Bool.{cond}
 use mathlib.Core.List.{List, [], _∷_, _++_}
-use Prim.Native.Nat.{ℕ, zero, suc, _+_, _/_, _%_, _^_}
+use Prim.Native.Nat.{ℕ, zero, suc, _+_, _/_, _%_, _^_, _<_}
 use lib.Dec.{ltb}
+use lib.ListN.{getD}
 
 -- what a group of seven bits holds: so many values
 abbrev pub group : ℕ
@@ -20,6 +21,10 @@ mostBytes = 5
 
 abbrev pub limit : ℕ
 limit = 2 ^ 35
+
+-- the numbers of s are bytes, as those of every slice are
+abbrev pub Bytes : List ℕ → Type 0
+Bytes s = (i : ℕ) → getD s i 0 < 256
 
 -- the bytes of n, where at most `more` may follow the first: a group that is the last one as it is, any other with the top bit set
 unfoldable pub bytesFrom : ℕ → ℕ → List ℕ

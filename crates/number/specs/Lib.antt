@@ -6,3 +6,5 @@ pub mod Writing
 pub mod Mapping
 pub mod Layout
 pub mod Stopping
+pub mod Properties
+pub mod WrongReaders

@@ -24,7 +24,8 @@ use Rattle.bounds.proofs.Theorem.{demand3}
 use Rattle.history.specs.declared.Event.{Event}
 use Rattle.history.specs.declared.Event.the-variants.{Ticks, Call}
 use Rattle.history.specs.Event.{Found, found, refused, eventAt}
-use Rattle.history.proofs.Extent.{Past, event-past}
+use Rattle.history.specs.Properties.{Past}
+use Rattle.history.proofs.Extent.{event-past}
 use Rattle.clock.specs.Ticks.{ranOf, ticksOf}
 use Rattle.clock.proofs.RunLaws.{ticks-one-more}
 use Rattle.playback.specs.Lines.{printLine}
@@ -190,7 +191,7 @@ module _ (s : List ℕ) where
     fits = omega arith
 
     inside : Past s (now .place) (p .next)
-    inside = event-past s (now .place) (p .print)
+    inside = event-past s (now .place) _ _ (p .print)
 
     before-end : (b : Bool) → leb (stepsToEnd s) k ≡ b → k ≤ length s
     before-end true t = absurd (let e = start-ends s k (leb-true _ _ t) in let w : _≡_ {A = ℕ} 0 1 = cc (p .going) in omega arith)

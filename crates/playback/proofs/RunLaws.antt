@@ -8,7 +8,8 @@ use lib.Dec.{leb, ltb}
 use lib.ListN.{length}
 use borrow.Author.Tests.{le-leb, lt-leb, lt-ltb, le-ltb, leb-true, leb-false, ltb-true, ltb-false}
 use Rattle.history.specs.Event.{Found, found, refused, eventAt}
-use Rattle.history.proofs.Extent.{Past, event-past}
+use Rattle.history.specs.Properties.{Past}
+use Rattle.history.proofs.Extent.{event-past}
 use Rattle.playback.specs.Lines.{logLine}
 use Rattle.playback.specs.Run.{longestHistory, startOfRun, endOf, stepAt, step, runAfter, linesOf, stepsToEnd}
 use Rattle.playback.specs.declared.run.Run.{Run}
@@ -92,7 +93,7 @@ module _ (s : List ℕ) where
       → left (stepAt r x .run) < left r
   unfolding left
   by-found r going fits within (found e next) i =
-      let p : Past s (r .place) next = event-past s (r .place) i in
+      let p : Past s (r .place) next = event-past s (r .place) _ _ i in
       simp going (omega arith)
   by-found r going fits within (refused n) i = simp going (omega arith)
 

@@ -10,6 +10,7 @@ use mir.Val.{toZ, ofZ}
 use mir.Facts.{toZ-ofZ}
 use Rattle.number.specs.declared.decode.Decoded.{Decoded}
 use Rattle.number.specs.declared.decode.Decoded.the-variants as D
+use Rattle.number.specs.Inner.{refusedAs}
 use Rattle.number.specs.Reading.{Found, number, refused, numberAt, told}
 use Rattle.number.proofs.Lists.{either}
 use Rattle.state.specs.Device.{deviceOf}
@@ -24,9 +25,11 @@ use Rattle.record.specs.declared.field.Field.{Field}
 use Rattle.record.specs.declared.field.Field.the-variants as F
 
 module _ (range : ℕ → Bool) (s : List ℕ) (at : ℕ) {d : Decoded} (e : told d ≡ numberAt s at) where
-  pub field-no : {r : ℕ} → d ≡ D.Refused r → refused r ≡ fieldAt range s at
+  pub field-no : {r : ℕ} {x : Found} → d ≡ D.Refused r → x ≡ refusedAs refused (told d) → x ≡ fieldAt range s at
   unfolding fieldAt judgedBy
-  field-no f = ap (λ (x : Decoded). judgedBy range (told x)) (sym f) ∙ ap (judgedBy range) e
+  field-no f p =
+      p ∙ ap (λ (y : Decoded). refusedAs refused (told y)) f
+      ∙ ap (λ (y : Decoded). judgedBy range (told y)) (sym f) ∙ ap (judgedBy range) e
 
   module _ {v k : ℕ} (f : d ≡ D.Value v k) where
     judged-number : judgedBy range (number v k) ≡ fieldAt range s at

@@ -4,3 +4,4 @@ pub mod Reading
 pub mod Saving
 pub mod Inner
 pub mod Properties
+pub mod WrongReaders

@@ -1,5 +1,6 @@
--- What holds of all records: the statements that the crate proves of the definitions (in its proofs/Records.antt), for whoever wants to
--- know what the field-by-field definitions come to.
+-- What holds of all records: the statements that the crate proves of the definitions, for whoever wants to know what the
+-- field-by-field definitions come to. Each is said of any reader or writer, and holds of those that the contracts name:
+-- `readingOf`, `recordOf`, `savingOf` with `bufferAfter`. Those that they shut out are in `WrongReaders`.
 use mathlib.Core.Path.{_≡_}
 use mathlib.Core.Bool.{Bool, true}
 use mathlib.Core.List.{List, [], _∷_, _++_}
@@ -7,6 +8,7 @@ use mathlib.Core.Logic.{_⊎_}
 use Prim.Native.Nat.{ℕ, _<_, _≤_}
 use lib.IntN.{ℤ, pos}
 use lib.ListN.{length, getD, take, drop}
+use Rattle.number.specs.Form.{Bytes}
 use Rattle.number.specs.Layout.{suits, mappedRange}
 use Rattle.number.specs.Mapping.{mapped}
 use Rattle.number.specs.Stopping.{Stops}
@@ -15,8 +17,8 @@ use Rattle.state.specs.State.{inRange, freshClock, flagRange, partsRange}
 use Rattle.state.specs.declared.state.Clock.{Clock}
 use Rattle.record.specs.Layout.{newest, knownVersion, holdsKind, holdsParts, reftimeRange, lastRange, keptUpdate, recordIn, recordOf, recordLayout}
 use Rattle.record.specs.Reading.{readingOf, accepted, refusedWith}
-use Rattle.record.specs.Saving.{savingOf, bufferAfter}
 use Rattle.record.specs.declared.restore.Restored.{Restored}
+use Rattle.record.specs.declared.save.Saved.{Saved}
 
 -- a remainder or a leftover that a record of this version and kind can hold
 abbrev pub suitsParts : ℕ → ℕ → ℤ → Bool
@@ -35,27 +37,32 @@ pub record Says (version : ℕ) (c : Clock) (flag last : ℕ) : Type 0 where
   pub remainder : suitsParts version (c .kind) (c .remainder .0) ≡ true
   pub leftover : suitsParts version (c .kind) (c .leftover .0) ≡ true
 
+-- what a reading of some bytes answers, and the bytes that are written of a clock
+abbrev pub Reader : Type 0
+Reader = List ℕ → Restored
+
+abbrev pub Writer : Type 0
+Writer = Clock → List ℕ
+
 -- ---- what was written is read
 
 -- what a record says is read from it, in every version
-abbrev pub ReadsBack : Type 0
-ReadsBack = (version : ℕ) (c : Clock) (flag last : ℕ) → Says version c flag last → readingOf (recordIn version c flag last) ≡ accepted c
+abbrev pub ReadsBack : Reader → Type 0
+ReadsBack read =
+    (version : ℕ) (c : Clock) (flag last : ℕ) → Says version c flag last
+    → read (recordIn version c flag last) ≡ accepted c
 
 -- .. and 13 where anything follows it
-abbrev pub NothingFollows : Type 0
-NothingFollows =
+abbrev pub NothingFollows : Reader → Type 0
+NothingFollows read =
     (version : ℕ) (c : Clock) (flag last : ℕ) (rest : List ℕ) → Says version c flag last → 0 < length rest
-    → readingOf (recordIn version c flag last ++ rest) ≡ refusedWith 13
+    → read (recordIn version c flag last ++ rest) ≡ refusedWith 13
 
 -- "Writers use the newest version": what is written of a clock in range says it
 abbrev pub WritesNewest : Type 0
 WritesNewest = (c : Clock) → inRange c ≡ true → Says newest c (c .updated) (c .interval)
 
 -- ---- what is read was written
-
--- the numbers of s are bytes, as those of every slice are
-abbrev pub Bytes : List ℕ → Type 0
-Bytes s = (i : ℕ) → getD s i 0 < 256
 
 -- the version of a record: its first byte, since no version is above 127
 abbrev pub versionOf : List ℕ → ℕ
@@ -75,12 +82,13 @@ pub record Whole (s : List ℕ) (c : Clock) : Type 0 where
   pub says : Says (versionOf s) c flag last
   pub written : s ≡ recordIn (versionOf s) c flag last
 
-abbrev pub OneForm : Type 0
-OneForm = (s : List ℕ) → Bytes s → readingOf s .refusal ≡ 0 → Whole s (readingOf s .clock)
+abbrev pub OneForm : Reader → Type 0
+OneForm read = (s : List ℕ) → Bytes s → read s .refusal ≡ 0 → Whole s (read s .clock)
 
 -- .. of the newest version: those that writing the clock gives
-abbrev pub OneNewest : Type 0
-OneNewest = (s : List ℕ) → Bytes s → readingOf s .refusal ≡ 0 → versionOf s ≡ newest → s ≡ recordOf (readingOf s .clock)
+abbrev pub OneNewest : Reader → Writer → Type 0
+OneNewest read write =
+    (s : List ℕ) → Bytes s → read s .refusal ≡ 0 → versionOf s ≡ newest → s ≡ write (read s .clock)
 
 -- .. of version 3: those of a clock in range that has no remainder and no leftover
 pub record OfVersion3 (s : List ℕ) (c : Clock) : Type 0 where
@@ -90,10 +98,10 @@ pub record OfVersion3 (s : List ℕ) (c : Clock) : Type 0 where
 
 -- exactly these are read, and what is then written has the newest version in the place of its version and two zeros at the end, and is
 -- else the same
-pub record Version3 : Type 0 where
-  pub only : (s : List ℕ) → Bytes s → readingOf s .refusal ≡ 0 → versionOf s ≡ 3 → OfVersion3 s (readingOf s .clock)
-  pub always : (s : List ℕ) (c : Clock) → OfVersion3 s c → readingOf s ≡ accepted c
-  pub after : (s : List ℕ) (c : Clock) → OfVersion3 s c → recordOf c ≡ newest ∷ drop 1 s ++ noParts
+pub record Version3 (read : Reader) (write : Writer) : Type 0 where
+  pub only : (s : List ℕ) → Bytes s → read s .refusal ≡ 0 → versionOf s ≡ 3 → OfVersion3 s (read s .clock)
+  pub always : (s : List ℕ) (c : Clock) → OfVersion3 s c → read s ≡ accepted c
+  pub after : (s : List ℕ) (c : Clock) → OfVersion3 s c → write c ≡ newest ∷ drop 1 s ++ noParts
 
 -- .. of version 2: those of such a clock, of kind 0
 pub record OfVersion2 (s : List ℕ) (c : Clock) : Type 0 where
@@ -103,10 +111,10 @@ pub record OfVersion2 (s : List ℕ) (c : Clock) : Type 0 where
   pub written : s ≡ recordIn 2 c (c .updated) (c .interval)
 
 -- exactly these are read, and what is then written has the kind too, after the version
-pub record Version2 : Type 0 where
-  pub only : (s : List ℕ) → Bytes s → readingOf s .refusal ≡ 0 → versionOf s ≡ 2 → OfVersion2 s (readingOf s .clock)
-  pub always : (s : List ℕ) (c : Clock) → OfVersion2 s c → readingOf s ≡ accepted c
-  pub after : (s : List ℕ) (c : Clock) → OfVersion2 s c → recordOf c ≡ newest ∷ kind256 ∷ drop 1 s ++ noParts
+pub record Version2 (read : Reader) (write : Writer) : Type 0 where
+  pub only : (s : List ℕ) → Bytes s → read s .refusal ≡ 0 → versionOf s ≡ 2 → OfVersion2 s (read s .clock)
+  pub always : (s : List ℕ) (c : Clock) → OfVersion2 s c → read s ≡ accepted c
+  pub after : (s : List ℕ) (c : Clock) → OfVersion2 s c → write c ≡ newest ∷ kind256 ∷ drop 1 s ++ noParts
 
 -- .. of version 1: those of such a clock, of kind 0, that has no earlier update, with a flag and a second beside it, which are judged as
 -- document 01 says and not kept
@@ -122,28 +130,48 @@ pub record OfVersion1 (s : List ℕ) (c : Clock) : Type 0 where
   pub written : s ≡ recordIn 1 c flag second
 
 -- exactly these are read, and what is then written is what its version 2 record, without an earlier update, would be written again as
-pub record Version1 : Type 0 where
-  pub only : (s : List ℕ) → Bytes s → readingOf s .refusal ≡ 0 → versionOf s ≡ 1 → OfVersion1 s (readingOf s .clock)
-  pub always : (s : List ℕ) (c : Clock) → OfVersion1 s c → readingOf s ≡ accepted c
-  pub after : (s : List ℕ) (c : Clock) → OfVersion1 s c → recordOf c ≡ newest ∷ kind256 ∷ drop 1 (recordIn 2 c 0 0) ++ noParts
+pub record Version1 (read : Reader) (write : Writer) : Type 0 where
+  pub only : (s : List ℕ) → Bytes s → read s .refusal ≡ 0 → versionOf s ≡ 1 → OfVersion1 s (read s .clock)
+  pub always : (s : List ℕ) (c : Clock) → OfVersion1 s c → read s ≡ accepted c
+  pub after : (s : List ℕ) (c : Clock) → OfVersion1 s c → write c ≡ newest ∷ kind256 ∷ drop 1 (recordIn 2 c 0 0) ++ noParts
 
 -- ---- what is refused
+
+-- the fresh clocks' fields from the seconds to the status, in every version
+abbrev pub freshFields256 : List ℕ
+freshFields256 =
+    0x00 ∷ 0x00 ∷ 0x00 ∷ 0x00 ∷ 0x00 ∷ 0x80 ∷ 0x80 ∷ 0x80 ∷ 0x40 ∷ 0x00 ∷ 0x00 ∷ 0x00
+    ∷ 0x80 ∷ 0xC8 ∷ 0xD0 ∷ 0x07 ∷ 0x80 ∷ 0xC8 ∷ 0xD0 ∷ 0x07 ∷ 0x04 ∷ []
+
+abbrev pub freshFields1024 : List ℕ
+freshFields1024 =
+    0x00 ∷ 0x00 ∷ 0x00 ∷ 0x00 ∷ 0x00 ∷ 0x80 ∷ 0x80 ∷ 0x80 ∷ 0x90 ∷ 0x01 ∷ 0x00 ∷ 0x00 ∷ 0x00
+    ∷ 0x80 ∷ 0xC8 ∷ 0xD0 ∷ 0x07 ∷ 0x80 ∷ 0xC8 ∷ 0xD0 ∷ 0x07 ∷ 0x04 ∷ []
 
 -- a reading is accepted, or refused with 10, 11, 12 or 13 and the fresh clock of kind 0
 pub record Refused (x : Restored) : Type 0 where
   pub number : (10 ≤ x .refusal) × (x .refusal ≤ 13)
   pub fresh : x .clock ≡ freshClock kind256
 
-abbrev pub RefusedIsFresh : Type 0
-RefusedIsFresh = (s : List ℕ) → (readingOf s .refusal ≡ 0) ⊎ Refused (readingOf s)
+abbrev pub RefusedIsFresh : Reader → Type 0
+RefusedIsFresh read = (s : List ℕ) → (read s .refusal ≡ 0) ⊎ Refused (read s)
 
 -- every refusal is given exactly when the reading stops so: at the first field that fails to read, and with 13 last
-pub record RefusedWhen (s : List ℕ) (r : ℕ) : Type 0 where
-  pub only : readingOf s ≡ refusedWith r → Stops recordLayout s 0 r
-  pub always : Stops recordLayout s 0 r → readingOf s ≡ refusedWith r
+pub record RefusedWhen (read : Reader) (s : List ℕ) (r : ℕ) : Type 0 where
+  pub only : read s ≡ refusedWith r → Stops recordLayout s 0 r
+  pub always : Stops recordLayout s 0 r → read s ≡ refusedWith r
 
-abbrev pub ExactlyWhen : Type 0
-ExactlyWhen = (s : List ℕ) (r : ℕ) → 0 < r → RefusedWhen s r
+abbrev pub ExactlyWhen : Reader → Type 0
+ExactlyWhen read = (s : List ℕ) (r : ℕ) → 0 < r → RefusedWhen read s r
+
+-- .. as of these: no bytes, a version of two bytes whose last is 0, version 5, kind 2 in a record of the newest version,
+-- and document 01's record of the fresh clock with a byte after its end
+pub record Refusals : Type 0 where
+  pub ends : readingOf [] ≡ refusedWith 10
+  pub long : readingOf (0x81 ∷ 0x00 ∷ []) ≡ refusedWith 11
+  pub unknown : readingOf (0x05 ∷ []) ≡ refusedWith 12
+  pub outside : readingOf (0x04 ∷ 0x02 ∷ []) ≡ refusedWith 12
+  pub follows : readingOf (0x01 ∷ freshFields256 ++ 0x00 ∷ []) ≡ refusedWith 13
 
 -- ---- how long a record is, and the fresh clocks'
 
@@ -164,14 +192,9 @@ pub record Longest : Type 0 where
   pub version3 : LongestIs 3 43
   pub version4 : LongestIs 4 45
 
--- the fresh clocks' fields from the seconds to the status, in every version
-abbrev pub freshFields256 : List ℕ
-freshFields256 =
-    0x00 ∷ 0x00 ∷ 0x00 ∷ 0x00 ∷ 0x00 ∷ 0x80 ∷ 0x80 ∷ 0x80 ∷ 0x40 ∷ 0x00 ∷ 0x00 ∷ 0x00 ∷ 0x80 ∷ 0xC8 ∷ 0xD0 ∷ 0x07 ∷ 0x80 ∷ 0xC8 ∷ 0xD0 ∷ 0x07 ∷ 0x04 ∷ []
-
-abbrev pub freshFields1024 : List ℕ
-freshFields1024 =
-    0x00 ∷ 0x00 ∷ 0x00 ∷ 0x00 ∷ 0x00 ∷ 0x80 ∷ 0x80 ∷ 0x80 ∷ 0x90 ∷ 0x01 ∷ 0x00 ∷ 0x00 ∷ 0x00 ∷ 0x80 ∷ 0xC8 ∷ 0xD0 ∷ 0x07 ∷ 0x80 ∷ 0xC8 ∷ 0xD0 ∷ 0x07 ∷ 0x04 ∷ []
+-- a version has one such number: neither a byte less nor a byte more would do
+abbrev pub OneLongest : Type 0
+OneLongest = (version m n : ℕ) → LongestIs version m → LongestIs version n → m ≡ n
 
 -- the records of the newest version are written, and the others are still read; that of version 1 is document 01's: "The fresh clock,
 -- whole, in hexadecimal"
@@ -186,9 +209,11 @@ pub record FreshRecords : Type 0 where
 -- ---- through a buffer
 
 -- after a write that was not refused, the bytes that it counted are read as the clock, and the later ones are as they were
-pub record Kept (c : Clock) (buf : List ℕ) : Type 0 where
-  pub read : readingOf (take (savingOf c buf .length) (bufferAfter c buf)) ≡ accepted c
-  pub later : drop (savingOf c buf .length) (bufferAfter c buf) ≡ drop (savingOf c buf .length) buf
+pub record Kept (c : Clock) (buf after : List ℕ) (length : ℕ) : Type 0 where
+  pub read : readingOf (take length after) ≡ accepted c
+  pub later : drop length after ≡ drop length buf
 
-abbrev pub SavedIsKept : Type 0
-SavedIsKept = (c : Clock) (buf : List ℕ) → savingOf c buf .refusal ≡ 0 → Kept c buf
+-- .. for what a write answers, and the buffer afterwards
+abbrev pub SavedIsKept : (Clock → List ℕ → Saved) → (Clock → List ℕ → List ℕ) → Type 0
+SavedIsKept answer after =
+    (c : Clock) (buf : List ℕ) → answer c buf .refusal ≡ 0 → Kept c buf (after c buf) (answer c buf .length)

@@ -1,8 +1,10 @@
 // One field of a record: a number at a place, and its range.
 ghost use mathlib.Core.Path.{_≡_};
 ghost use lib.Dec.{leb};
+ghost use Rattle.number.specs.Inner.{refusedAs};
 ghost use Rattle.number.specs.Layout.{fieldAt, placeAt, mappedRange};
 ghost use Rattle.number.specs.Mapping.{unmapped};
+ghost use Rattle.number.specs.Reading.{refused, told};
 ghost use Rattle.record.specs.Inner.{toldField, upTo, betweenZ};
 ghost use Rattle.record.specs.Layout.{knownVersion};
 use crate::layout::VERSION;
@@ -18,37 +20,45 @@ pub(crate) enum Field {
     Refused(u8),
 }
 
+// The refusal of a number ends the reading of its field.
+fn refusal_of(d: Decoded) -> Field
+    ensures { λ r. ⌜ toldField r ≡ refusedAs refused (told d) ⌝ }
+{
+    match d {
+        Decoded::Refused(n) => Field::Refused(n),
+        Decoded::Value { value: _, next: _ } => Field::Refused(12),
+    }
+}
+
 // The version, which is a record's first number.
 pub(crate) fn version(bytes: &[u8]) -> Field
     ensures { λ r. ⌜ toldField r ≡ fieldAt knownVersion (now (bytes .entry)) 0 ⌝ }
 {
-    match number::read(bytes, 0) {
-        Decoded::Refused(n) => Field::Refused(n),
-        Decoded::Value { value, next } => {
-            if value == 0 {
-                return Field::Refused(12);
-            }
-            if value <= LAST_VERSION {
-                return Field::Value(value as u32, next);
-            }
-            Field::Refused(12)
-        }
+    let d = number::read(bytes, 0);
+    let Decoded::Value { value, next } = d else {
+        return refusal_of(d);
+    };
+    if value == 0 {
+        return Field::Refused(12);
     }
+    if value <= LAST_VERSION {
+        return Field::Value(value as u32, next);
+    }
+    Field::Refused(12)
 }
 
 // The field at `at` whose values are 0 to `most`.
 pub(crate) fn plain(bytes: &[u8], at: usize, most: u32) -> Field
     ensures { λ r. ⌜ toldField r ≡ fieldAt (upTo most) (now (bytes .entry)) at ⌝ }
 {
-    match number::read(bytes, at) {
-        Decoded::Refused(n) => Field::Refused(n),
-        Decoded::Value { value, next } => {
-            if value <= most as u64 {
-                return Field::Value(value as u32, next);
-            }
-            Field::Refused(12)
-        }
+    let d = number::read(bytes, at);
+    let Decoded::Value { value, next } = d else {
+        return refusal_of(d);
+    };
+    if value <= most as u64 {
+        return Field::Value(value as u32, next);
     }
+    Field::Refused(12)
 }
 
 // The same field of a record that holds it from version `first` on: in an older one it takes no byte and is 0.
@@ -65,16 +75,15 @@ pub(crate) fn since(first: u32, version: u32, bytes: &[u8], at: usize, most: u32
 pub(crate) fn signed(bytes: &[u8], at: usize, least: i32, most: i32) -> Field
     ensures { λ r. ⌜ toldField r ≡ fieldAt (mappedRange (betweenZ least most)) (now (bytes .entry)) at ⌝ }
 {
-    match number::read(bytes, at) {
-        Decoded::Refused(n) => Field::Refused(n),
-        Decoded::Value { value, next } => {
-            let z = number::unmap(value);
-            if ((least as i64) <= z) & (z <= most as i64) {
-                return Field::Value(value as u32, next);
-            }
-            Field::Refused(12)
-        }
+    let d = number::read(bytes, at);
+    let Decoded::Value { value, next } = d else {
+        return refusal_of(d);
+    };
+    let z = number::unmap(value);
+    if ((least as i64) <= z) & (z <= most as i64) {
+        return Field::Value(value as u32, next);
     }
+    Field::Refused(12)
 }
 
 // The signed number that a field's number is mapped from.

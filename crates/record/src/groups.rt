@@ -3,12 +3,12 @@
 ghost use mathlib.Core.Path.{_≡_};
 ghost use Rattle.record.specs.Layout.{keptUpdate, clockOf};
 use crate::field::unmapped_of;
-use clock::Clock;
-use clock::Frequency;
-use clock::Micros;
-use clock::OffsetUnits;
-use clock::PhaseParts;
-use clock::PhaseUnits;
+use state::Clock;
+use state::Frequency;
+use state::Micros;
+use state::OffsetUnits;
+use state::PhaseParts;
+use state::PhaseUnits;
 
 // What stands before the table's fields.
 pub(crate) struct Head {

@@ -1,7 +1,7 @@
 // What a record holds: the version, and the numbers in their order.
 ghost use mathlib.Core.Path.{_≡_};
 ghost use Rattle.record.specs.Layout.{numbersOf};
-use clock::Clock;
+use state::Clock;
 
 // The version that is written, and the last of those that are read: they are 1 to 4.
 pub(crate) const VERSION: u32 = 4;

@@ -2,8 +2,8 @@
 ghost use Rattle.record.specs.Saving.{Saves};
 use crate::layout::NUMBERS;
 use crate::layout::numbers;
-use clock::Clock;
-use clock::in_range;
+use state::Clock;
+use state::in_range;
 
 // No number has more than five bytes: there is room for every record.
 const ROOM: usize = 5 * NUMBERS;

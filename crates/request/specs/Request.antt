@@ -6,8 +6,7 @@ use lib.IntN.{ℤ, pos, negℤ, _+ℤ_, _*ℤ_}
 use lib.Signed.{quotZ, ltZ}
 use Rattle.state.specs.Units.{micros, offsetUnits, frequencyUnits, offsetUnitsPerMicro}
 use Rattle.state.specs.State.{inRange, within, strictlyWithin, greatestOffset, greatestFrequency, greatestConstant, greatestError, statusOk, statusBad, timeOf, whole}
-use Rattle.state.specs.Refusal.{refusedState, refusedMode, refusedOffset, refusedFrequency, refusedError, refusedStatus, refusedConstant, refusedSoon, refuse}
-use Rattle.clock.specs.Refusal.{answer}
+use Rattle.state.specs.Refusal.{refusedState, refusedMode, refusedOffset, refusedFrequency, refusedError, refusedStatus, refusedConstant, refusedSoon, refuse, answer}
 use Rattle.state.specs.declared.state.Clock.{Clock}
 use Rattle.state.specs.declared.units.Micros.{Micros}
 use Rattle.state.specs.declared.outcome.Outcome.{Outcome}

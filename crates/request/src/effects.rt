@@ -14,14 +14,14 @@ use crate::request::ADJ_OFFSET;
 use crate::request::ADJ_STATUS;
 use crate::request::ADJ_TIMECONST;
 use crate::request::Request;
-use clock::AskedMicros;
-use clock::Clock;
-use clock::Frequency;
-use clock::Micros;
-use clock::OFFSET_PER_MICRO;
-use clock::OffsetUnits;
-use clock::TIME_BAD;
-use clock::TIME_OK;
+use state::AskedMicros;
+use state::Clock;
+use state::Frequency;
+use state::Micros;
+use state::OFFSET_PER_MICRO;
+use state::OffsetUnits;
+use state::TIME_BAD;
+use state::TIME_OK;
 
 // The status BAD as a request asks for it.
 const BAD: u64 = TIME_BAD as u64;

@@ -7,9 +7,9 @@ ghost use Rattle.state.specs.State.{within, greatestFrequency, greatestOffset, 
 ghost use Rattle.request.specs.Request.{gainDivisor, gain, clamp};
 ghost use Rattle.request.specs.Inner.{greatestGain};
 use crate::units::AskedOffset;
-use clock::Frequency;
-use clock::MAX_FREQUENCY;
-use clock::MIN_FREQUENCY;
+use state::Frequency;
+use state::MAX_FREQUENCY;
+use state::MIN_FREQUENCY;
 
 fn gain_divisor(constant: u8) -> i32
     requires { ⌜ constant ≤ greatestConstant ⌝ }

@@ -17,16 +17,16 @@ use crate::request::ADJ_STATUS;
 use crate::request::ADJ_TIMECONST;
 use crate::request::MIN_INTERVAL;
 use crate::request::Request;
-use clock::Clock;
-use clock::REFUSED_CONSTANT;
-use clock::REFUSED_ERROR;
-use clock::REFUSED_FREQUENCY;
-use clock::REFUSED_MODE;
-use clock::REFUSED_OFFSET;
-use clock::REFUSED_SOON;
-use clock::REFUSED_STATE;
-use clock::REFUSED_STATUS;
-use clock::in_range;
+use state::Clock;
+use state::REFUSED_CONSTANT;
+use state::REFUSED_ERROR;
+use state::REFUSED_FREQUENCY;
+use state::REFUSED_MODE;
+use state::REFUSED_OFFSET;
+use state::REFUSED_SOON;
+use state::REFUSED_STATE;
+use state::REFUSED_STATUS;
+use state::in_range;
 
 pub(crate) fn is_set(mode: u64, bit: u64) -> bool
     requires { ⌜ 0 < bit ⌝ }

@@ -4,9 +4,9 @@ use crate::effects::requested_of;
 use crate::refusal::refusal_of;
 use crate::units::AskedFrequency;
 use crate::units::AskedOffset;
-use clock::AskedMicros;
-use clock::Clock;
-use clock::Outcome;
+use state::AskedMicros;
+use state::Clock;
+use state::Outcome;
 
 // The bits of a request's mode, one for each field that it can select, by their names in RFC 1589.
 pub const ADJ_OFFSET: u64 = 1;

@@ -1,0 +1,112 @@
+-- Labels of document 01, read; and the readers and writers that the statements shut out.
+use mathlib.Core.Path.{_≡_, refl, sym, ap, _∙_}
+use mathlib.Core.Bool.{Bool, true, false, true≢false}
+use mathlib.Core.List.{List, []}
+use Prim.Native.Nat.{ℕ, _+_, _/_, _≤_, _<_}
+use native.Mathlib.Omega.{arith}
+use lib.ListN.{getD}
+use Rattle.state.specs.Units.{secondsPerDay, lastSecondOfDay}
+use Rattle.state.specs.State.{lastSecond}
+use Rattle.state.specs.declared.state.Clock.{Clock}
+use Rattle.calendar.proofs.Dates.{on, one-day}
+use Rattle.calendar.proofs.Closed.{date-right}
+use Rattle.label.specs.declared.Answer.{Answer}
+use Rattle.label.specs.Inner.{Shows, pairOf, pairAt, dateAt}
+use Rattle.label.specs.Label.{labelOf, isSixty, clockLabel}
+use Rattle.label.specs.Properties.{leapDay, lastLabel, onePast, inserted, noSixty, Labels, ShutOut}
+use Rattle.label.specs.Reading.{label, noLabel, WrittenFor, ReadsAs, accepted, refused}
+use Rattle.label.specs.Writing.{writeRefusal}
+use Rattle.label.proofs.Accept.{clock-says, clockAt, clock-sound, accepts, lastDay, lastDayEnd}
+use Rattle.label.proofs.Bytes.{Says}
+use Rattle.label.proofs.DayTime.{shown-once}
+use Rattle.label.proofs.RoundTrip.{one-answer}
+
+-- ---- the bytes are those of the seconds
+
+leap-day : leapDay ≡ labelOf 951782400 false
+unfolding labelOf
+leap-day = rw (← date-right 11016 (omega arith))
+
+last-label : lastLabel ≡ labelOf lastSecond false
+unfolding labelOf
+last-label = rw (← date-right lastDay (omega arith))
+
+inserted-second : inserted ≡ labelOf lastSecondOfDay true
+unfolding labelOf
+inserted-second = rw (← date-right 0 (omega arith))
+
+leap-read : ReadsAs leapDay (label 951782400 false)
+leap-read = accepts 951782400 false (omega arith) (λ e. absurd (true≢false (sym e))) leap-day
+
+inserted-read : ReadsAs inserted (label lastSecondOfDay true)
+inserted-read = accepts lastSecondOfDay true (omega arith) (λ _. refl) inserted-second
+
+-- ---- 7 February 2106 has no label past 06:28:15
+
+past-end : (text : List ℕ) (r : Answer) (t : ℕ) (sixty : Bool) → dateAt text ≡ on 2106 2 7
+    → Shows t sixty (pairAt text 11) (pairAt text 14) (pairAt text 17) → lastDayEnd < t → ReadsAs text r → r ≡ noLabel
+past-end text r t sixty d w late a =
+    one-answer text r noLabel a (refused (λ c w′.
+    let y : Says text (c .seconds) (isSixty c) = clock-says w′ in
+    let day = one-day lastDay (c .seconds / secondsPerDay) (sym (date-right lastDay (omega arith)) ∙ sym d ∙ y .date) in
+    omega (arith, day, shown-once w (y .time) .0, y .bound)))
+
+pub labels : Labels ReadsAs
+unfolding pairOf
+labels =
+    record {
+      leap = λ r a. one-answer leapDay r _ a leap-read;
+      last =
+          λ r a.
+          one-answer lastLabel r _ a
+          (accepts lastSecond false (omega arith) (λ e. absurd (true≢false (sym e))) last-label);
+      sixty = λ r a. one-answer inserted r _ a inserted-read;
+      past =
+          λ r a.
+          past-end onePast r (lastDayEnd + 1) false refl
+          (record { within = omega arith; last = λ e. absurd (true≢false (sym e)); hour = refl; minute = refl; second = refl })
+          (omega arith) a;
+      pastSixty =
+          λ r a.
+          past-end noSixty r lastSecondOfDay true refl
+          (record { within = omega arith; last = λ _. refl; hour = refl; minute = refl; second = refl })
+          (omega arith) a;
+    }
+
+-- ---- what is shut out
+
+abbrev first : Clock
+first = clockAt 0 false
+
+written-first : WrittenFor first (clockLabel first)
+written-first = record { sound = clock-sound 0 (omega arith) false; bytes = refl }
+
+-- the buffer has the inserted second's label, which a wrong writer leaves there
+room : (s : ℕ) → s ≤ lastSecond → writeRefusal (clockAt s false) inserted ≡ 0
+unfolding writeRefusal
+room s h = rw (clock-sound s h false)
+
+pub shut-out : ShutOut
+shut-out =
+    record {
+      several =
+          λ h.
+          let z : _≡_ {A = ℕ} 15 0 = ap (λ (r : Answer). r .refusal) (h [] noLabel (label 0 false) tt tt) in
+          absurd (omega arith);
+      accepting = λ h. let w = h [] (label 0 false) refl .0 refl in absurd (omega (arith, clock-says (w .1) .long));
+      refusing =
+          λ h.
+          let z : _≡_ {A = ℕ} 15 0 = h (clockLabel first) noLabel refl .1 (first, written-first) in
+          absurd (omega arith);
+      unread =
+          λ h.
+          let e = h first inserted (label lastSecondOfDay true) (room 0 (omega arith)) inserted-read in
+          let z : lastSecondOfDay ≡ 0 = ap (λ (r : Answer). r .seconds) e in
+          absurd (omega arith);
+      unwritten =
+          λ h.
+          let c = clockAt 951782400 false in
+          let e = h leapDay 951782400 false c inserted leap-read refl refl (room 951782400 (omega arith)) in
+          let z : _≡_ {A = ℕ} 0x31 0x32 = ap (λ (s : List ℕ). getD s 0 0) e in
+          absurd (omega arith);
+    }
