@@ -21,7 +21,8 @@
  *     while the clock is copied;
  *   - a bool holds 0 or 1, as every conversion to it gives; in an event that of `stop` too, whatever the code is.
  *
- * What is promised of each call, and by which definition: docs/REFERENCE.md, "From C". test/c_program.sh holds this file to the crates.
+ * What is promised of each call, and by which definition: docs/REFERENCE.md, "From C". test/crossing.sh and
+ * test/c_program.sh hold this file to the crates.
  */
 #ifndef HEUKELVOS_H
 #define HEUKELVOS_H

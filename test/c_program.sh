@@ -99,10 +99,8 @@ stand_alone() {
     ! grep -E ' [BCDGSbdgs] | U ' "$work/symbols" | grep -vE ' U mem(cpy|move|set)$'
 }
 
-# A program that never ends is ended by the work that it has done, and not by the clock: the machine may be busy.
 nothing_wrong() { # PROGRAM
-    (ulimit -t 60 && exec "$work/$1") >"$work/out" 2>"$work/said"
-    status=$?
+    status_of "$work/$1"
     told=$(grep -c ': as it should be$' "$work/out")
     [ "$status" -eq 0 ] && [ "$told" -eq "$(grep -c '	check("' "c/$1.c")" ] || shown "$told of its checks"
 }
