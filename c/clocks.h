@@ -41,10 +41,12 @@ static inline void show(const char *name, Clock c)
 	       c.maxerror, c.esterror, c.status, c.kind, c.remainder, c.leftover);
 }
 
-/* A request of a mode whose fields are yet to be given: no two are alike, and each is refused where it is looked at. */
+/* A request whose fields are yet to be given: no two are alike, and each is refused where it is looked at. */
 static inline struct heukelvos_request request_of(uint64_t mode)
 {
-	struct heukelvos_request r = { mode, INT64_MIN, INT64_MAX, UINT64_MAX, UINT64_MAX - 1, UINT64_MAX - 2, UINT64_MAX - 3 };
+	struct heukelvos_request r = {
+		mode, INT64_MIN, INT64_MAX, UINT64_MAX, UINT64_MAX - 1, UINT64_MAX - 2, UINT64_MAX - 3
+	};
 	return r;
 }
 
@@ -55,8 +57,7 @@ static inline struct heukelvos_request request_of(uint64_t mode)
 /* A clock with a frequency (units), an offset (us), a time constant, both errors and then a status asked for. */
 static inline Clock asked_for(Clock c, int64_t frequency, int64_t offset, uint64_t constant, uint64_t status)
 {
-	struct heukelvos_request r = request_of(HEUKELVOS_ADJ_OFFSET | HEUKELVOS_ADJ_FREQUENCY | HEUKELVOS_ADJ_MAXERROR
-	                                        | HEUKELVOS_ADJ_ESTERROR | HEUKELVOS_ADJ_TIMECONST);
+	struct heukelvos_request r = request_of(63 - HEUKELVOS_ADJ_STATUS);
 	r.offset = offset;
 	r.frequency = frequency;
 	r.maxerror = ASKED_MAXERROR;
@@ -189,7 +190,7 @@ static inline Clock spoilt(Clock c)
 	return c;
 }
 
-/* A clock of either kind at any time, with any frequency, offset, errors, parts and interval; one in eight is spoilt. */
+/* A clock of either kind at any time, with any frequency, offset, errors, parts and interval; one in eight spoilt. */
 static inline Clock random_clock(void)
 {
 	Clock c = adjusted(draw(KINDS), draw(3) ? draw(UINT64_C(1) << 32) : HEUKELVOS_LAST_SECOND - draw(3), draw(1000000),

@@ -94,9 +94,9 @@ enum heukelvos_event_code {
 };
 
 /*
- * What the units are worth, and the ends of the ranges. All are 64 bits wide and signed, so that what a caller works
- * out with them, as ppm * HEUKELVOS_FREQUENCY_PER_PPM of an int, keeps its value until it is judged. They may stand in
- * an #if and as the length of an array.
+ * What the units are worth, and the ends of the ranges. All are 64 bits wide and signed, so that what a caller
+ * works out with them, as ppm * HEUKELVOS_FREQUENCY_PER_PPM of an int, keeps its value until it is judged. They
+ * may stand in an #if and as the length of an array.
  */
 #define HEUKELVOS_PHASE_PER_MICRO INT64_C(268435456)  /* phase units in a microsecond */
 #define HEUKELVOS_OFFSET_PER_MICRO INT64_C(16384)     /* offset units in a microsecond */
@@ -112,8 +112,8 @@ enum heukelvos_event_code {
 #define HEUKELVOS_MOST_ADJUSTMENT_256 INT64_C(303037440)
 #define HEUKELVOS_LEAST_ADJUSTMENT_1024 INT64_C(92012800)
 #define HEUKELVOS_MOST_ADJUSTMENT_1024 INT64_C(209977088)
-#define HEUKELVOS_PARTS_256 INT64_C(16)      /* parts of a phase unit, of the 256 Hz recorder: one is 2^-32 us */
-#define HEUKELVOS_PARTS_1024 INT64_C(64)     /* .. and of the 1,024 Hz recorder: one is 2^-34 us */
+#define HEUKELVOS_PARTS_256 INT64_C(16)      /* parts of a phase unit, at 256 Hz: one is 2^-32 us */
+#define HEUKELVOS_PARTS_1024 INT64_C(64)     /* .. and at 1,024 Hz: one is 2^-34 us */
 #define HEUKELVOS_MAX_CONSTANT INT64_C(4)
 #define HEUKELVOS_MIN_INTERVAL INT64_C(64)   /* rollovers from one accepted offset to the next */
 #define HEUKELVOS_MAX_INTERVAL INT64_C(1024) /* rollovers since the last offset: later ones are not counted */

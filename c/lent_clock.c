@@ -309,7 +309,8 @@ static bool too_soon(int kind)
 		return false;
 	r.mode = HEUKELVOS_ADJ_MAXERROR;
 	struct heukelvos_outcome other = heukelvos_adjust(c, r);
-	return other.refusal == 0 && other.clock.maxerror == 8 && other.clock.esterror == ASKED_ESTERROR && other.clock.interval == HEUKELVOS_MIN_INTERVAL - 1
+	return other.refusal == 0 && other.clock.maxerror == 8 && other.clock.esterror == ASKED_ESTERROR
+		&& other.clock.interval == HEUKELVOS_MIN_INTERVAL - 1
 		&& counts(&other.clock, 1) && gained(other.clock) == 1000 * HEUKELVOS_MIN_INTERVAL;
 }
 
@@ -350,8 +351,8 @@ static bool random_runs(void)
 }
 
 /*
- * The refusal of a request that asks a fresh clock for one thing, or UINT8_MAX where the clock is then another than it
- * should be: no other field is looked at or moved.
+ * The refusal of a request that asks a fresh clock for one thing, or UINT8_MAX where the clock is then another
+ * than it should be: no other field is looked at or moved.
  */
 static uint8_t asked(int kind, uint64_t mode, int64_t number)
 {
@@ -359,7 +360,10 @@ static uint8_t asked(int kind, uint64_t mode, int64_t number)
 	Clock wanted = fresh(kind);
 	switch (mode) {
 	case HEUKELVOS_ADJ_OFFSET:
-		wanted.offset = (r.offset = number) * HEUKELVOS_OFFSET_PER_MICRO, wanted.updated = 1, wanted.status = HEUKELVOS_TIME_OK;
+		r.offset = number;
+		wanted.offset = number * HEUKELVOS_OFFSET_PER_MICRO;
+		wanted.updated = 1;
+		wanted.status = HEUKELVOS_TIME_OK;
 		break;
 	case HEUKELVOS_ADJ_FREQUENCY: wanted.frequency = r.frequency = number; break;
 	case HEUKELVOS_ADJ_MAXERROR: wanted.maxerror = r.maxerror = number; break;
@@ -410,8 +414,8 @@ static bool requests(int kind)
 }
 
 /*
- * What a caller works out with the header's numbers, in ints of his own, keeps its value until it is judged: 250 ppm are
- * refused, and are not -6.
+ * What a caller works out with the header's numbers, in ints of his own, keeps its value until it is judged:
+ * 250 ppm are refused, and are not -6.
  */
 static bool worked_out(int kind)
 {
@@ -422,14 +426,15 @@ static bool worked_out(int kind)
 	return heukelvos_set(fresh(kind), HEUKELVOS_LAST_SECOND + 1, 0).refusal == HEUKELVOS_REFUSED_TIME;
 }
 
-/* A label takes the first twenty bytes of a buffer of any length, though the length's low 8 or 16 bits say that it has none. */
+/* A label takes the first twenty bytes of a buffer of any length, though its low 8 or 16 bits may be 0. */
 static bool long_labels(int kind)
 {
 	static uint8_t text[65536];
 	static const size_t lengths[] = { 20, 21, 255, 256, 256 + 19, 65535, 65536 };
 	for (size_t k = 0; k < sizeof lengths / sizeof *lengths; k++) {
 		memset(text, 'x', sizeof text);
-		if (heukelvos_label(sound(kind, 2), text, lengths[k]) != 0 || memcmp(text, "2026-12-31T23:59:58Zxx", 22) != 0)
+		if (heukelvos_label(sound(kind, 2), text, lengths[k]) != 0
+		    || memcmp(text, "2026-12-31T23:59:58Zxx", 22) != 0)
 			return printf("    %zu bytes\n", lengths[k]), false;
 	}
 	return true;

@@ -352,8 +352,8 @@ static void told_as_event(Event e)
 	else if (e.request.mode == HEUKELVOS_ADJ_STATUS)
 		printf("request status %" PRIu64 "\n", e.request.status);
 	else
-		printf("request offset %" PRId64 " frequency %" PRId64 " maxerror %" PRIu64 " esterror %" PRIu64 " constant %" PRIu64 "\n",
-		       e.request.offset, e.request.frequency, e.request.maxerror, e.request.esterror, e.request.constant);
+		printf("request offset %" PRId64 " frequency %" PRId64 " maxerror %" PRIu64 " esterror %" PRIu64
+		       " constant %" PRIu64 "\n", e.request.offset, e.request.frequency, e.request.maxerror, e.request.esterror, e.request.constant);
 }
 
 static void told_as_line(Event e, Answer a, Clock c)

@@ -1,5 +1,6 @@
-# c/heukelvos.h and the libraries for C: the programs of c/ are built against them and find nothing wrong; that of a lent clock ends where the
-# replay of its history ends. The header's numbers are those of the crates. (test/crossing.sh compares the declarations.)
+# c/heukelvos.h and the libraries for C: the programs of c/ are built against them and find nothing wrong; that of
+# a lent clock ends where the replay of its history ends. The header's numbers are those of the crates.
+# (test/crossing.sh compares the declarations.)
 # shellcheck shell=sh
 
 # No name is in both, and neither needs the other: they may be linked in any order.
@@ -41,7 +42,7 @@ plain_cplusplus() {
         g++ -Wall -Wextra -Wpedantic -Werror -fsyntax-only -Ic -x c++ -
 }
 
-# The header's numbers are signed and 64 bits wide, so that a product with an int is; the preprocessor knows them too.
+# The header's numbers are signed and 64 bits wide, so that a product with an int is; they may stand in an #if.
 wide_numbers() {
     names=$(sed -n 's/^#define \(HEUKELVOS_[A-Z0-9_]*\) .*/\1/p' c/heukelvos.h)
     twice

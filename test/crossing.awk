@@ -1,10 +1,12 @@
-# What crosses to C, in one form for both sides: 'struct NAME: TYPE FIELD, ..' and 'fn TYPE NAME: TYPE, ..', a line each.
+# What crosses to C, in one form for both sides: 'struct NAME: TYPE FIELD, ..' and 'fn TYPE NAME: TYPE, ..', a
+# line each.
 #
 #   awk -v side=crates -f test/crossing.awk docs/REFERENCE.md crates/*/src/*.rt
 #   awk -f test/crossing.awk c/heukelvos.h
 #
-# Of the crates: each type of the reference's table under "From C", by the name that it has in C there, and each function
-# that is exported. A struct of one unnamed field is that field's type; a slice is a pointer and a length.
+# Of the crates: each type of the reference's table under "From C", by the name that it has in C there, and
+# each function that is exported. A struct of one unnamed field is that field's type; a slice is a pointer and
+# a length.
 
 function complain(text) { print "crossing: " text; bad = 1 }
 

@@ -6,8 +6,8 @@ widest=120
 # Documents whose prose is not yet.
 wide_ones='CONTRIBUTING.md docs/DECISIONS.md docs/LANDINGS.md docs/PROMISES.md'
 
-# The lines of prose that are too wide: neither a row of a table, nor code, nor a line that is one link. A character counts
-# once, however many bytes it has.
+# The lines of prose that are too wide: neither a row of a table, nor code, nor a line that is one link. A character
+# counts once, however many bytes it has.
 too_wide() { # FILE
     awk -v widest="$widest" '
         /^    / && (blank || code) { code = 1; next }
@@ -34,11 +34,13 @@ faults() { # FILE
 # What is a fault is seen, and what is none is not taken for one.
 seen() {
     columns=$(printf '%0120d' 0)
-    for row in "a ${columns#00}x" "- ${columns#0}" "${columns}λ" BENCHTABLE '  CHECK_TABLE' 'TODO: more' 'a FIXME' 'XXX' 'see /work/x' '`/tmp`' '/opt/kit' 'in /home/me' '[a](nowhere.md)'; do
+    for row in "a ${columns#00}x" "- ${columns#0}" "${columns}λ" \
+        BENCHTABLE '  CHECK_TABLE' 'TODO: more' 'a FIXME' 'XXX' 'see /work/x' '`/tmp`' '/opt/kit' 'in /home/me' '[a](nowhere.md)'; do
         echo "$row" >"$work/a.md"
         [ -n "$(faults "$work/a.md")" ] || { echo "not seen: $row"; return 1; }
     done
-    for row in "${columns#0}λ" "| $columns |" "[$columns](a.md)" "$(printf 'a\n\n    %s' "$columns")" 'NOTE that' A 'docs/worked_day.txt' 'bin/work' '[a](a.md#b)' '[b](#b)' '[c](https://example.org/c)'; do
+    for row in "${columns#0}λ" "| $columns |" "[$columns](a.md)" "$(printf 'a\n\n    %s' "$columns")" \
+        'NOTE that' A 'docs/worked_day.txt' 'bin/work' '[a](a.md#b)' '[b](#b)' '[c](https://example.org/c)'; do
         echo "$row" >"$work/a.md"
         [ -z "$(faults "$work/a.md")" ] || { echo "taken for a fault: $row"; return 1; }
     done
@@ -50,4 +52,6 @@ finished() { # FILE
 }
 
 tell "faults of a document" seen
-for document in README.md CONTRIBUTING.md docs/*.md examples/README.md; do tell "$document" finished "$document"; done
+for document in README.md CONTRIBUTING.md docs/*.md examples/README.md; do
+    tell "$document" finished "$document"
+done

@@ -1,4 +1,4 @@
-/* Records in hexadecimal, as the documents show them, held to a clock by docs/REFERENCE.md, "Numbers" and "Records". */
+/* Records in hexadecimal, as the documents show them, and the clock that each is of: docs/REFERENCE.md, "Records". */
 #include <stdio.h>
 #include <stdlib.h>
 #include "heukelvos.h"
@@ -29,6 +29,7 @@ static bool is_record_of(const char **at, struct heukelvos_clock c)
 {
 	return number(at) == 4 && number(at) == c.kind && number(at) == c.seconds && number(at) == c.micros
 		&& mapped(at) == c.phase && mapped(at) == c.offset && mapped(at) == c.frequency && mapped(at) == c.adjustment
-		&& number(at) == c.constant && number(at) == c.updated && number(at) == c.interval && number(at) == c.maxerror
-		&& number(at) == c.esterror && number(at) == c.status && mapped(at) == c.remainder && mapped(at) == c.leftover;
+		&& number(at) == c.constant && number(at) == c.updated && number(at) == c.interval
+		&& number(at) == c.maxerror && number(at) == c.esterror && number(at) == c.status
+		&& mapped(at) == c.remainder && mapped(at) == c.leftover;
 }

@@ -1,13 +1,13 @@
-# Every snippet of the documents is tried, in the form that test/snippets.forms gives it: this file runs those in C and those of the
-# shell; test/snippets_rattle.sh has those in Rattle proved.
+# Every snippet of the documents is tried, in the form that test/snippets.forms gives it: this file runs those
+# in C and those of the shell; test/snippets_rattle.sh has those in Rattle proved.
 # shellcheck shell=sh
 . test/snippets.lib
 
 # A whole program, compiled as C, linked with both libraries, and run.
 snippet_in_c() { # FORM
     filled "$1" >"$work/snippet.c"
-    gcc -std=c11 -Wall -Wextra -Wno-unused-variable -Wno-unused-but-set-variable -Werror -Ic -o "$work/snippet" "$work/snippet.c" \
-        target/staticlib/libheukelvos_rig.a target/staticlib/libheukelvos.a && "$work/snippet"
+    gcc -std=c11 -Wall -Wextra -Wno-unused-variable -Wno-unused-but-set-variable -Werror -Ic -o "$work/snippet" \
+        "$work/snippet.c" target/staticlib/libheukelvos_rig.a target/staticlib/libheukelvos.a && "$work/snippet"
 }
 
 # A script, in which $block is the file with the block, and $work a folder.

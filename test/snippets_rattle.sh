@@ -1,8 +1,10 @@
-# The snippets in Rattle are put into one crate, `mine`, over the crates that are proved, and are proved there: some 10 s.
+# The snippets in Rattle are put into one crate, `mine`, over the crates that are proved, and are proved
+# there: some 10 s.
 # shellcheck shell=sh
 . test/snippets.lib
 
-# The folder whose crates are proved: this one; or, where broken versions are tried, the one that they are copies of.
+# The folder whose crates are proved: this one; or, where broken versions are tried, the one that they are
+# copies of.
 proved_in=$top
 [ -d target/rlib/record.rlib ] || proved_in=${SOUND:-$top}
 
@@ -21,8 +23,7 @@ snippets_crate() {
         filled "$form" uses >"$mine/src/$module.rt"
         [ "$module" = main ] || echo "mod $module;" >>"$work/modules"
     done
-    { grep -E '^(ghost )?use ' "$mine/src/main.rt"; cat "$work/modules"; grep -vE '^(ghost )?use ' "$mine/src/main.rt"; } >"$work/main.rt"
-    mv "$work/main.rt" "$mine/src/main.rt"
+    cat "$work/modules" >>"$mine/src/main.rt"
     for form in $(forms_of proof); do
         read -r _ function <"$form.kind"
         mkdir -p "$mine/proofs/$function"
