@@ -18,8 +18,33 @@
 #include "heukelvos.h"
 
 _Static_assert(sizeof(struct clock) == sizeof(struct heukelvos_clock), "bench/reference.c has the fields of c/heukelvos.h");
-_Static_assert(offsetof(struct clock, kind) == offsetof(struct heukelvos_clock, kind), "bench/reference.c has the kind's place");
-_Static_assert(offsetof(struct clock, leftover) == offsetof(struct heukelvos_clock, leftover), "bench/reference.c has the leftover's place");
+
+/* The clock and the request of bench/reference.c are taken for the header's. */
+#define SAME_PLACE(own, field) \
+	_Static_assert(offsetof(struct own, field) == offsetof(struct heukelvos_##own, field), #own "." #field)
+
+SAME_PLACE(clock, seconds);
+SAME_PLACE(clock, micros);
+SAME_PLACE(clock, phase);
+SAME_PLACE(clock, offset);
+SAME_PLACE(clock, frequency);
+SAME_PLACE(clock, adjustment);
+SAME_PLACE(clock, constant);
+SAME_PLACE(clock, updated);
+SAME_PLACE(clock, interval);
+SAME_PLACE(clock, maxerror);
+SAME_PLACE(clock, esterror);
+SAME_PLACE(clock, status);
+SAME_PLACE(clock, kind);
+SAME_PLACE(clock, remainder);
+SAME_PLACE(clock, leftover);
+SAME_PLACE(request, mode);
+SAME_PLACE(request, offset);
+SAME_PLACE(request, frequency);
+SAME_PLACE(request, maxerror);
+SAME_PLACE(request, esterror);
+SAME_PLACE(request, status);
+SAME_PLACE(request, constant);
 
 static inline int in_place(struct clock *c)
 {

@@ -41,16 +41,30 @@ static inline void show(const char *name, Clock c)
 	       c.maxerror, c.esterror, c.status, c.kind, c.remainder, c.leftover);
 }
 
-/* A clock with a frequency (units), an offset (us), a time constant and then a status asked for. */
+/* A request whose fields are yet to be given: no two are alike, and each is refused where it is looked at. */
+static inline struct heukelvos_request request_of(uint64_t mode)
+{
+	struct heukelvos_request r = {
+		mode, INT64_MIN, INT64_MAX, UINT64_MAX, UINT64_MAX - 1, UINT64_MAX - 2, UINT64_MAX - 3
+	};
+	return r;
+}
+
+/* The errors (us) that are asked for with every offset: two, so that neither passes for the other. */
+#define ASKED_MAXERROR 2500
+#define ASKED_ESTERROR 700
+
+/* A clock with a frequency (units), an offset (us), a time constant, both errors and then a status asked for. */
 static inline Clock asked_for(Clock c, int64_t frequency, int64_t offset, uint64_t constant, uint64_t status)
 {
-	struct heukelvos_request r = { 0 };
-	r.mode = HEUKELVOS_ADJ_OFFSET | HEUKELVOS_ADJ_FREQUENCY | HEUKELVOS_ADJ_TIMECONST;
+	struct heukelvos_request r = request_of(63 - HEUKELVOS_ADJ_STATUS);
 	r.offset = offset;
 	r.frequency = frequency;
+	r.maxerror = ASKED_MAXERROR;
+	r.esterror = ASKED_ESTERROR;
 	r.constant = constant;
 	c = heukelvos_adjust(c, r).clock;
-	r.mode = HEUKELVOS_ADJ_STATUS;
+	r = request_of(HEUKELVOS_ADJ_STATUS);
 	r.status = status;
 	return heukelvos_adjust(c, r).clock;
 }
@@ -157,7 +171,7 @@ static inline int32_t some_parts(int kind)
 static inline Clock spoilt(Clock c)
 {
 	uint32_t any = draw(UINT64_C(1) << 32);
-	switch (draw(12)) {
+	switch (draw(14)) {
 	case 0: c.micros = any; break;
 	case 1: c.phase = (int32_t)any; break;
 	case 2: c.offset = (int32_t)any; break;
@@ -169,12 +183,14 @@ static inline Clock spoilt(Clock c)
 	case 8: c.kind = any % 4; break;
 	case 9: c.remainder = (int32_t)any; break;
 	case 10: c.leftover = (int32_t)any; break;
+	case 11: c.esterror = any; break;
+	case 12: c.constant = any % 8; break;
 	default: c.status = any % 8; break;
 	}
 	return c;
 }
 
-/* A clock of either kind at any time, with any frequency, offset, parts and interval; one in eight is spoilt. */
+/* A clock of either kind at any time, with any frequency, offset, errors, parts and interval; one in eight spoilt. */
 static inline Clock random_clock(void)
 {
 	Clock c = adjusted(draw(KINDS), draw(3) ? draw(UINT64_C(1) << 32) : HEUKELVOS_LAST_SECOND - draw(3), draw(1000000),
@@ -184,6 +200,10 @@ static inline Clock random_clock(void)
 		c.interval = draw(2) ? draw(HEUKELVOS_MAX_INTERVAL + 1) : HEUKELVOS_MAX_INTERVAL - draw(8);
 	else
 		c.updated = 0;
+	if (draw(2)) {
+		c.maxerror = draw(HEUKELVOS_MAX_ERROR + 1);
+		c.esterror = draw(HEUKELVOS_MAX_ERROR + 1);
+	}
 	if (draw(2)) {
 		c.remainder = some_parts(c.kind);
 		c.leftover = some_parts(c.kind);

@@ -21,7 +21,8 @@
  *     while the clock is copied;
  *   - a bool holds 0 or 1, as every conversion to it gives; in an event that of `stop` too, whatever the code is.
  *
- * What is promised of each call, and by which definition: docs/REFERENCE.md, "From C". test/c_program.sh holds this file to the crates.
+ * What is promised of each call, and by which definition: docs/REFERENCE.md, "From C". test/crossing.sh and
+ * test/c_program.sh hold this file to the crates.
  */
 #ifndef HEUKELVOS_H
 #define HEUKELVOS_H
@@ -92,28 +93,34 @@ enum heukelvos_event_code {
 	HEUKELVOS_EVENT_CATCH_UP = 4
 };
 
-/* What the units are worth, and the ends of the ranges. */
-#define HEUKELVOS_PHASE_PER_MICRO 268435456    /* phase units in a microsecond */
-#define HEUKELVOS_OFFSET_PER_MICRO 16384       /* offset units in a microsecond */
-#define HEUKELVOS_FREQUENCY_PER_PPM 16777216   /* frequency units in 1 ppm; in timex.freq there are 65,536 */
-#define HEUKELVOS_LAST_SECOND 4294967295       /* 2106-02-07T06:28:15Z; a long, so that the second after it is none of 32 bits */
-#define HEUKELVOS_LAST_MICRO 999999
-#define HEUKELVOS_MAX_OFFSET_MICROS 127999     /* us, either way: what a request may ask for */
-#define HEUKELVOS_MAX_OFFSET 2097135616        /* offset units, either way: what may be left of it */
-#define HEUKELVOS_MAX_FREQUENCY 1677721600     /* frequency units, 100 ppm either way */
-#define HEUKELVOS_LEAST_ADJUSTMENT_256 (-168819712) /* phase units a tick, of the 256 Hz recorder */
-#define HEUKELVOS_MOST_ADJUSTMENT_256 303037440
-#define HEUKELVOS_LEAST_ADJUSTMENT_1024 92012800 /* phase units a tick, of the 1,024 Hz recorder */
-#define HEUKELVOS_MOST_ADJUSTMENT_1024 209977088
-#define HEUKELVOS_PARTS_256 16                 /* parts of a phase unit, of the 256 Hz recorder: one is 2^-32 us */
-#define HEUKELVOS_PARTS_1024 64                /* parts of a phase unit, of the 1,024 Hz recorder: one is 2^-34 us */
-#define HEUKELVOS_MAX_CONSTANT 4
-#define HEUKELVOS_MIN_INTERVAL 64              /* rollovers from one accepted offset to the next: sooner ones are refused */
-#define HEUKELVOS_MAX_INTERVAL 1024            /* rollovers since the last offset: later ones are not counted */
-#define HEUKELVOS_MAX_ERROR 16000000           /* us, both errors */
-#define HEUKELVOS_MAX_CEILING 65536            /* ticks in one catch-up */
-#define HEUKELVOS_MAX_CLOCKS 8                 /* clocks of a rig's table */
-#define HEUKELVOS_LABEL_SIZE 20                /* bytes of a label */
+/*
+ * What the units are worth, and the ends of the ranges. All are 64 bits wide and signed, so that what a caller
+ * works out with them, as ppm * HEUKELVOS_FREQUENCY_PER_PPM of an int, keeps its value until it is judged. They
+ * may stand in an #if and as the length of an array.
+ */
+#define HEUKELVOS_PHASE_PER_MICRO INT64_C(268435456)  /* phase units in a microsecond */
+#define HEUKELVOS_OFFSET_PER_MICRO INT64_C(16384)     /* offset units in a microsecond */
+#define HEUKELVOS_FREQUENCY_PER_PPM INT64_C(16777216) /* frequency units in 1 ppm; timex.freq has 65,536 */
+/* 2106-02-07T06:28:15Z; 64 bits wide, so that adding 1 does not wrap */
+#define HEUKELVOS_LAST_SECOND INT64_C(4294967295)
+#define HEUKELVOS_LAST_MICRO INT64_C(999999)
+#define HEUKELVOS_MAX_OFFSET_MICROS INT64_C(127999) /* us, either way: what a request may ask for */
+#define HEUKELVOS_MAX_OFFSET INT64_C(2097135616)    /* offset units, either way: what may be left of it */
+#define HEUKELVOS_MAX_FREQUENCY INT64_C(1677721600) /* frequency units, 100 ppm either way */
+/* phase units a tick, of the 256 Hz recorder and of the 1,024 Hz recorder */
+#define HEUKELVOS_LEAST_ADJUSTMENT_256 (-INT64_C(168819712))
+#define HEUKELVOS_MOST_ADJUSTMENT_256 INT64_C(303037440)
+#define HEUKELVOS_LEAST_ADJUSTMENT_1024 INT64_C(92012800)
+#define HEUKELVOS_MOST_ADJUSTMENT_1024 INT64_C(209977088)
+#define HEUKELVOS_PARTS_256 INT64_C(16)      /* parts of a phase unit, at 256 Hz: one is 2^-32 us */
+#define HEUKELVOS_PARTS_1024 INT64_C(64)     /* .. and at 1,024 Hz: one is 2^-34 us */
+#define HEUKELVOS_MAX_CONSTANT INT64_C(4)
+#define HEUKELVOS_MIN_INTERVAL INT64_C(64)   /* rollovers from one accepted offset to the next */
+#define HEUKELVOS_MAX_INTERVAL INT64_C(1024) /* rollovers since the last offset: later ones are not counted */
+#define HEUKELVOS_MAX_ERROR INT64_C(16000000) /* us, both errors */
+#define HEUKELVOS_MAX_CEILING INT64_C(65536) /* ticks in one catch-up */
+#define HEUKELVOS_MAX_CLOCKS INT64_C(8)      /* clocks of a rig's table */
+#define HEUKELVOS_LABEL_SIZE INT64_C(20)     /* bytes of a label */
 
 /*
  * A clock, 52 bytes. The bytes between fields mean nothing: compare clocks field by field. A field outside its range makes a clock that

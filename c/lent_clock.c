@@ -128,12 +128,22 @@ static bool ends(int kind)
 
 static bool layout(int kind)
 {
-	Clock c = adjusted(kind, 5, 6, 7, 8, 3, HEUKELVOS_TIME_DEL);
+	Clock c = adjusted(kind, 5, 6, 7, 8, 3, HEUKELVOS_TIME_DEL), wanted = fresh(kind);
+	wanted.seconds = 5;
+	wanted.micros = 6;
+	wanted.frequency = 7;
+	wanted.offset = 8 * HEUKELVOS_OFFSET_PER_MICRO;
+	wanted.constant = 3;
+	wanted.updated = 1;
+	wanted.maxerror = ASKED_MAXERROR;
+	wanted.esterror = ASKED_ESTERROR;
+	wanted.status = HEUKELVOS_TIME_DEL;
 	for (int n = 0; n < FAULTS; n++)
 		if (heukelvos_in_range(unsound(kind, n)))
 			return printf("    fault %d is not seen\n", n), false;
-	return ends(kind) && c.seconds == 5 && c.micros == 6 && c.frequency == 7 && c.offset == 8 * HEUKELVOS_OFFSET_PER_MICRO && c.constant == 3
-		&& c.updated == 1 && c.interval == 0 && c.status == HEUKELVOS_TIME_DEL && c.kind == kind && heukelvos_in_range(c);
+	if (!same(c, wanted) || !heukelvos_in_range(c))
+		return show("adjusted", c), show("wanted", wanted), false;
+	return ends(kind);
 }
 
 /* The fresh clock of a number: of a kind its own, of every other number refusal 1, and the clock of kind 0. */
@@ -247,8 +257,7 @@ static bool counts(Clock *c, int rollovers)
 /* The frequency units that an offset of 1,000 us adds to a clock of frequency 0, which it leaves with an interval of 0; else -1. */
 static int32_t gained(Clock c)
 {
-	struct heukelvos_request r = { 0 };
-	r.mode = HEUKELVOS_ADJ_OFFSET;
+	struct heukelvos_request r = request_of(HEUKELVOS_ADJ_OFFSET);
 	r.offset = 1000;
 	struct heukelvos_outcome o = heukelvos_adjust(c, r);
 	return o.refusal == 0 && c.frequency == 0 && o.clock.updated == 1 && o.clock.interval == 0 ? o.clock.frequency : -1;
@@ -260,8 +269,8 @@ static bool intervals(int kind)
 	Clock plain = adjusted(kind, midnight, 0, 0, 1000, 0, HEUKELVOS_TIME_OK), none = heukelvos_set(plain, midnight, 0).clock;
 	Clock inserted = adjusted(kind, midnight - 3, 0, 0, 1000, 0, HEUKELVOS_TIME_INS);
 	Clock deleted = adjusted(kind, midnight - 3, 0, 0, 1000, 0, HEUKELVOS_TIME_DEL);
-	struct heukelvos_request other = { 0 };
-	other.mode = HEUKELVOS_ADJ_MAXERROR;
+	struct heukelvos_request other = request_of(HEUKELVOS_ADJ_MAXERROR);
+	other.maxerror = 1;
 	if (!counts(&inserted, 70) || inserted.seconds != midnight + 66 || inserted.interval != 70 || gained(inserted) != 70000)
 		return show("an inserted second", inserted), false;
 	if (!counts(&deleted, 70) || deleted.seconds != midnight + 68 || deleted.interval != 70 || gained(deleted) != 70000)
@@ -289,7 +298,7 @@ static bool refused(Clock c, struct heukelvos_request r, uint8_t refusal)
 static bool too_soon(int kind)
 {
 	Clock c = adjusted(kind, midnight, 0, 0, 1000, 0, HEUKELVOS_TIME_OK);
-	struct heukelvos_request r = { HEUKELVOS_ADJ_OFFSET, 1000, 7, 7, 7, 0, HEUKELVOS_MAX_CONSTANT + 1 };
+	struct heukelvos_request r = { HEUKELVOS_ADJ_OFFSET, 1000, 7, 8, 9, 0, HEUKELVOS_MAX_CONSTANT + 1 };
 	if (!refused(c, r, HEUKELVOS_REFUSED_SOON) || !counts(&c, HEUKELVOS_MIN_INTERVAL - 1) || !refused(c, r, HEUKELVOS_REFUSED_SOON))
 		return show("the clock", c), false;
 	r.mode = 31;
@@ -300,7 +309,8 @@ static bool too_soon(int kind)
 		return false;
 	r.mode = HEUKELVOS_ADJ_MAXERROR;
 	struct heukelvos_outcome other = heukelvos_adjust(c, r);
-	return other.refusal == 0 && other.clock.maxerror == 7 && other.clock.interval == HEUKELVOS_MIN_INTERVAL - 1
+	return other.refusal == 0 && other.clock.maxerror == 8 && other.clock.esterror == ASKED_ESTERROR
+		&& other.clock.interval == HEUKELVOS_MIN_INTERVAL - 1
 		&& counts(&other.clock, 1) && gained(other.clock) == 1000 * HEUKELVOS_MIN_INTERVAL;
 }
 
@@ -340,20 +350,55 @@ static bool random_runs(void)
 	return right;
 }
 
-/* The refusal of a request that asks for one thing. */
+/*
+ * The refusal of a request that asks a fresh clock for one thing, or UINT8_MAX where the clock is then another
+ * than it should be: no other field is looked at or moved.
+ */
 static uint8_t asked(int kind, uint64_t mode, int64_t number)
 {
-	struct heukelvos_request r = { mode, number, number, number, number, number, number };
+	struct heukelvos_request r = request_of(mode);
+	Clock wanted = fresh(kind);
+	switch (mode) {
+	case HEUKELVOS_ADJ_OFFSET:
+		r.offset = number;
+		wanted.offset = number * HEUKELVOS_OFFSET_PER_MICRO;
+		wanted.updated = 1;
+		wanted.status = HEUKELVOS_TIME_OK;
+		break;
+	case HEUKELVOS_ADJ_FREQUENCY: wanted.frequency = r.frequency = number; break;
+	case HEUKELVOS_ADJ_MAXERROR: wanted.maxerror = r.maxerror = number; break;
+	case HEUKELVOS_ADJ_ESTERROR: wanted.esterror = r.esterror = number; break;
+	case HEUKELVOS_ADJ_STATUS: wanted.status = r.status = number; break;
+	case HEUKELVOS_ADJ_TIMECONST: wanted.constant = r.constant = number; break;
+	}
 	struct heukelvos_outcome o = heukelvos_adjust(fresh(kind), r);
-	if (o.refusal != 0 && !same(o.clock, fresh(kind)))
-		return UINT8_MAX;
-	return o.refusal;
+	if (same(o.clock, o.refusal ? fresh(kind) : wanted))
+		return o.refusal;
+	show("asked", o.clock);
+	return UINT8_MAX;
+}
+
+/* All six fields in one request, each with a number of its own, have the effects of each alone. */
+static bool asked_for_all(int kind)
+{
+	struct heukelvos_request r = { 63, -3, 11, 5, 7, HEUKELVOS_TIME_BAD, 2 };
+	Clock wanted = fresh(kind);
+	wanted.offset = -3 * HEUKELVOS_OFFSET_PER_MICRO;
+	wanted.frequency = 11;
+	wanted.maxerror = 5;
+	wanted.esterror = 7;
+	wanted.constant = 2;
+	wanted.updated = 1;
+	struct heukelvos_outcome o = heukelvos_adjust(fresh(kind), r);
+	r.mode = 64;
+	return (o.refusal == 0 && same(o.clock, wanted) && refused(fresh(kind), r, HEUKELVOS_REFUSED_MODE))
+		|| (show("asked for all", o.clock), false);
 }
 
 /* Each bit of the mode selects its field, whose refusal has its number at the first value that is not allowed. */
 static bool requests(int kind)
 {
-	return asked(kind, 63, 0) == 0 && asked(kind, 64, 0) == HEUKELVOS_REFUSED_MODE
+	return asked_for_all(kind) && asked(kind, 0, 0) == 0
 		&& asked(kind, HEUKELVOS_ADJ_OFFSET, HEUKELVOS_MAX_OFFSET_MICROS) == 0
 		&& asked(kind, HEUKELVOS_ADJ_OFFSET, -HEUKELVOS_MAX_OFFSET_MICROS - 1) == HEUKELVOS_REFUSED_OFFSET
 		&& asked(kind, HEUKELVOS_ADJ_FREQUENCY, 1 - HEUKELVOS_MAX_FREQUENCY) == 0
@@ -368,6 +413,33 @@ static bool requests(int kind)
 		&& asked(kind, HEUKELVOS_ADJ_TIMECONST, HEUKELVOS_MAX_CONSTANT + 1) == HEUKELVOS_REFUSED_CONSTANT;
 }
 
+/*
+ * What a caller works out with the header's numbers, in ints of his own, keeps its value until it is judged:
+ * 250 ppm are refused, and are not -6.
+ */
+static bool worked_out(int kind)
+{
+	for (int ppm = -1000; ppm <= 1000; ppm++)
+		if (asked(kind, HEUKELVOS_ADJ_FREQUENCY, ppm * HEUKELVOS_FREQUENCY_PER_PPM)
+		    != (ppm > -100 && ppm < 100 ? HEUKELVOS_ACCEPTED : HEUKELVOS_REFUSED_FREQUENCY))
+			return printf("    %d ppm\n", ppm), false;
+	return heukelvos_set(fresh(kind), HEUKELVOS_LAST_SECOND + 1, 0).refusal == HEUKELVOS_REFUSED_TIME;
+}
+
+/* A label takes the first twenty bytes of a buffer of any length, though its low 8 or 16 bits may be 0. */
+static bool long_labels(int kind)
+{
+	static uint8_t text[65536];
+	static const size_t lengths[] = { 20, 21, 255, 256, 256 + 19, 65535, 65536 };
+	for (size_t k = 0; k < sizeof lengths / sizeof *lengths; k++) {
+		memset(text, 'x', sizeof text);
+		if (heukelvos_label(sound(kind, 2), text, lengths[k]) != 0
+		    || memcmp(text, "2026-12-31T23:59:58Zxx", 22) != 0)
+			return printf("    %zu bytes\n", lengths[k]), false;
+	}
+	return true;
+}
+
 static bool other_calls(int kind)
 {
 	uint8_t text[22], untouched[22];
@@ -380,7 +452,7 @@ static bool other_calls(int kind)
 		&& heukelvos_label(unsound(kind, 0), text, 0) == HEUKELVOS_REFUSED_STATE && memcmp(text, untouched, sizeof text) == 0
 		&& heukelvos_label(c, text, sizeof text) == 0 && memcmp(text, "2026-12-31T23:59:58Zxx", sizeof text) == 0
 		&& t.refusal == 0 && t.reading.seconds == c.seconds && t.reading.micros == 500000 && t.reading.status == HEUKELVOS_TIME_INS
-		&& t.reading.maxerror == c.maxerror && t.reading.esterror == c.esterror
+		&& t.reading.maxerror == ASKED_MAXERROR && t.reading.esterror == ASKED_ESTERROR
 		&& none.refusal == HEUKELVOS_REFUSED_STATE && none.reading.seconds == 0 && none.reading.micros == 0
 		&& none.reading.status == HEUKELVOS_TIME_BAD && none.reading.maxerror == 0 && none.reading.esterror == 0
 		&& heukelvos_set(c, UINT64_C(1) << 32, 0).refusal == HEUKELVOS_REFUSED_TIME && same(heukelvos_set(c, 0, 1000000).clock, c);
@@ -509,8 +581,9 @@ static void set(uint64_t seconds, int64_t offset, int64_t frequency, uint64_t st
 {
 	day = asked_for(heukelvos_set(day, seconds, 0).clock, frequency, offset, 1, status);
 	if (history)
-		printf("set %" PRIu64 " 0\nrequest offset %" PRId64 " frequency %" PRId64 " constant 1\nrequest status %" PRIu64 "\n",
-		       seconds, offset, frequency, status);
+		printf("set %" PRIu64 " 0\nrequest offset %" PRId64 " frequency %" PRId64
+		       " maxerror %d esterror %d constant 1\nrequest status %" PRIu64 "\n",
+		       seconds, offset, frequency, ASKED_MAXERROR, ASKED_ESTERROR, status);
 }
 
 static void day_of_calls(void)
@@ -562,8 +635,10 @@ int main(int argc, char **argv)
 	check("catch-ups at their edges: lent, by value, by single ticks", both(edges));
 	check("200,000 catch-ups of random clocks: lent, by value, by single ticks", random_runs());
 	check("requests", both(requests));
+	check("what is worked out with the header's numbers", both(worked_out));
 	check("settings", both(settings));
 	check("parts of a phase unit: none is lost, whole units, what is in force", both(parts_of_a_unit));
 	check("refused settings, readings, labels", both(other_calls));
+	check("labels into long buffers", both(long_labels));
 	return failed != 0;
 }

@@ -317,16 +317,18 @@ static Event of_a_day(void)
 	case 2:
 	case 3:
 		e.code = HEUKELVOS_EVENT_REQUEST;
-		e.request.mode = HEUKELVOS_ADJ_OFFSET | HEUKELVOS_ADJ_FREQUENCY | HEUKELVOS_ADJ_TIMECONST;
+		e.request = request_of(63 - HEUKELVOS_ADJ_STATUS);
 		e.request.offset = (int64_t)draw(256200) - 128100;
 		e.request.frequency = (int64_t)draw(UINT64_C(2) * HEUKELVOS_MAX_FREQUENCY + 1) - HEUKELVOS_MAX_FREQUENCY;
+		e.request.maxerror = draw(20000);
+		e.request.esterror = 20000 + draw(20000);
 		e.request.constant = draw(40) ? draw(5) : 5;
 		break;
 	case 4:
 	case 5:
 	case 6:
 		e.code = HEUKELVOS_EVENT_REQUEST;
-		e.request.mode = HEUKELVOS_ADJ_STATUS;
+		e.request = request_of(HEUKELVOS_ADJ_STATUS);
 		e.request.status = draw(3) ? HEUKELVOS_TIME_INS + draw(2) : draw(6);
 		break;
 	case 7:
@@ -350,7 +352,8 @@ static void told_as_event(Event e)
 	else if (e.request.mode == HEUKELVOS_ADJ_STATUS)
 		printf("request status %" PRIu64 "\n", e.request.status);
 	else
-		printf("request offset %" PRId64 " frequency %" PRId64 " constant %" PRIu64 "\n", e.request.offset, e.request.frequency, e.request.constant);
+		printf("request offset %" PRId64 " frequency %" PRId64 " maxerror %" PRIu64 " esterror %" PRIu64
+		       " constant %" PRIu64 "\n", e.request.offset, e.request.frequency, e.request.maxerror, e.request.esterror, e.request.constant);
 }
 
 static void told_as_line(Event e, Answer a, Clock c)

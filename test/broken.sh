@@ -26,6 +26,7 @@ new_copy() {
     # shellcheck disable=SC2086
     cp -R $parts "$copy"
     cp test/run "$copy/target/sound"
+    [ ! -d target/rlib ] || { ln -s "$top/target/rlib" "$copy/target/rlib" && cp -R target/stamp "$copy/target"; }
     [ ! -d target/staticlib ] || cp -R target/staticlib "$copy/target"
     cp target/bin/replay target/bin/cross_check "$copy/target/bin"
 }

@@ -1,5 +1,6 @@
-# c/heukelvos.h and the libraries for C: the programs of c/ are built against them and find nothing wrong; that of a lent clock ends where the
-# replay of its history ends. The header's numbers are those of the crates and of docs/REFERENCE.md.
+# c/heukelvos.h and the libraries for C: the programs of c/ are built against them and find nothing wrong; that of
+# a lent clock ends where the replay of its history ends. The header's numbers are those of the crates.
+# (test/crossing.sh compares the declarations.)
 # shellcheck shell=sh
 
 # No name is in both, and neither needs the other: they may be linked in any order.
@@ -7,13 +8,14 @@ libraries='target/staticlib/libheukelvos_rig.a target/staticlib/libheukelvos.a'
 
 # Every constant of the header, as 'NAME VALUE', without its prefix.
 of_header() {
-    sed -n -e 's/^#define HEUKELVOS_\([A-Z0-9_]*\) (\{0,1\}\(-\{0,1\}[0-9]*\).*/\1 \2/p' \
+    sed -n -e 's/^#define HEUKELVOS_\([A-Z0-9_]*\) (\{0,1\}\(-\{0,1\}\)INT64_C(\([0-9]*\)).*/\1 \2\3/p' \
         -e 's/^	HEUKELVOS_\([A-Z0-9_]*\) = \([0-9]*\).*/\1 \2/p' c/heukelvos.h
 }
 
 # Every public constant of the crates that is written as a number, the same way.
 of_crates() {
-    cat crates/state/src/*.rt crates/clock/src/*.rt crates/request/src/*.rt crates/rig/src/*.rt | sed -n 's/^pub const \([A-Z0-9_]*\): [a-z0-9]* = \(-\{0,1\}[0-9]*\);$/\1 \2/p'
+    cat crates/state/src/*.rt crates/clock/src/*.rt crates/request/src/*.rt crates/rig/src/*.rt |
+        sed -n 's/^pub const \([A-Z0-9_]*\): [a-z0-9]* = \(-\{0,1\}[0-9]*\);$/\1 \2/p'
 }
 
 same_numbers() {
@@ -29,25 +31,61 @@ same_numbers() {
     [ "$compared" -ge 20 ] || { echo "only $compared constants were found in both"; return 1; }
 }
 
-# The header has a name for each refusal of the reference, and no other number.
-same_refusals() {
-    sed -n '/^enum heukelvos_refusal/,/^}/s/.* = \([0-9]*\).*/\1/p' c/heukelvos.h >"$work/header"
-    sed -n '/^## Refusals/,/^## Numbers/s/^| \([0-9][0-9]*\) .*/\1/p' docs/REFERENCE.md >"$work/reference"
-    [ -s "$work/reference" ] && diff "$work/header" "$work/reference"
-}
+# Included twice, as by two headers of a program.
+twice() { printf '#include "heukelvos.h"\n#include "heukelvos.h"\n'; }
 
-plain_c() { echo '#include "heukelvos.h"' | gcc -std=c99 -Wall -Wextra -Wpedantic -Werror -fsyntax-only -Ic -x c -; }
+plain_c() { twice | gcc -std=c99 -Wall -Wextra -Wpedantic -Werror -fsyntax-only -Ic -x c -; }
 
 # Each type by its own name, which in C++ a function of the same name would hide.
 plain_cplusplus() {
-    { echo '#include "heukelvos.h"' && sed -n 's/^struct \(heukelvos_[a-z_]*\) {$/extern \1 a_\1;/p' c/heukelvos.h; } |
+    { twice && sed -n 's/^struct \(heukelvos_[a-z_]*\) {$/extern \1 a_\1;/p' c/heukelvos.h; } |
         g++ -Wall -Wextra -Wpedantic -Werror -fsyntax-only -Ic -x c++ -
 }
 
-built() { # PROGRAM
+# The header's numbers are signed and 64 bits wide, so that a product with an int is; they may stand in an #if.
+wide_numbers() {
+    names=$(sed -n 's/^#define \(HEUKELVOS_[A-Z0-9_]*\) .*/\1/p' c/heukelvos.h)
+    twice
+    for name in $names; do
+        echo "_Static_assert(sizeof($name) == 8 && -1 - 0 * $name < 0, \"$name\");"
+        printf '#if %s == 0\n#error %s\n#endif\n' "$name" "$name"
+    done
+    echo 'char label[HEUKELVOS_LABEL_SIZE], table[HEUKELVOS_MAX_CLOCKS];'
+}
+
+wide() {
+    wide_numbers >"$work/wide.c"
+    [ "$(grep -c Static "$work/wide.c")" -ge 20 ] || { cat "$work/wide.c"; return 1; }
+    gcc -std=c11 -Wall -Wextra -Werror -fsyntax-only -Ic "$work/wide.c"
+}
+
+there_are_libraries() {
     for library in $libraries; do
         [ -f "$library" ] || { echo "there is no $library: run 'rt staticlib' for it"; return 1; }
     done
+}
+
+# A program in C++ that calls the libraries, and names each of their functions, is linked and runs.
+linked_cplusplus() {
+    there_are_libraries || return 1
+    {
+        twice
+        echo 'typedef void function();'
+        echo 'function *const all[] = {'
+        sed -n 's/^[a-z].*[ *]\(heukelvos_[a-z_]*\)(.*);$/    reinterpret_cast<function *>(\1),/p' c/heukelvos.h
+        echo '};'
+        echo 'int main(int, char **argv) {'
+        echo '    heukelvos_clock c = heukelvos_set(heukelvos_fresh(HEUKELVOS_KIND_1024).clock, 5, 6).clock;'
+        echo '    return heukelvos_read(c).reading.micros == 6 && all[argv[0] == 0] != 0 ? 0 : 1;'
+        echo '}'
+    } >"$work/linked.cc"
+    [ "$(grep -c cast "$work/linked.cc")" -ge 11 ] || { cat "$work/linked.cc"; return 1; }
+    # shellcheck disable=SC2086
+    g++ -Wall -Wextra -Werror -Ic -o "$work/linked" "$work/linked.cc" $libraries && "$work/linked"
+}
+
+built() { # PROGRAM
+    there_are_libraries || return 1
     # shellcheck disable=SC2086
     gcc -std=c11 -O2 -Wall -Wextra -Wpedantic -Werror -Ic -o "$work/$1" "c/$1.c" $libraries
 }
@@ -96,13 +134,14 @@ untouched() { # FILE...
 }
 
 tell "the header's numbers are the crates'" same_numbers
-tell "the header's refusals are the reference's" same_refusals
 if [ -n "$(no_c)" ]; then
     pass_over "the program in C" "$(no_c)"
 else
     tell "the header in C99" plain_c
+    tell "the header's numbers are 64 bits wide" wide
     if command -v g++ >/dev/null; then
         tell "the header in C++" plain_cplusplus
+        tell "a program in C++ is linked" linked_cplusplus
     else
         pass_over "the header in C++" "g++ is not on this machine"
     fi
