@@ -1,4 +1,5 @@
--- What holds of every event: the statement that the crate proves of `eventAt`, said of any reader, and readers that it shuts out.
+-- What holds of every event: the statement that the crate proves of `eventAt`, said of any reader, and
+-- readers that it shuts out.
 use mathlib.Core.Path.{_≡_}
 use mathlib.Core.Bool.{cond}
 use mathlib.Core.List.{List, []}

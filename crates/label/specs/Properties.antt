@@ -1,5 +1,6 @@
--- What holds of all labels: the statements that the crate proves of the definitions. Each is said of any reader, which is what it may
--- answer, or of any writer, which is what it leaves in the buffer, and holds of those that the contracts name: `ReadsAs`, `writtenTo`.
+-- What holds of all labels: the statements that the crate proves of the definitions. Each is said of any
+-- reader, which is what it may answer, or of any writer, which is what it leaves in the buffer, and holds of
+-- those that the contracts name: `ReadsAs`, `writtenTo`.
 use mathlib.Core.Path.{_≡_}
 use mathlib.Core.Bool.{Bool, true, false}
 use mathlib.Core.List.{List, [], _∷_, _++_}
@@ -24,12 +25,14 @@ OneAnswer reads = (text : List ℕ) (r r′ : Answer) → reads text r → reads
 
 -- "The reader accepts exactly the strings of twenty bytes that the writer can write"
 abbrev pub AcceptedIff : Reader → Type 0
-AcceptedIff reads = (text : List ℕ) (r : Answer) → reads text r → (r .refusal ≡ 0) ↔ ((c : Clock) × WrittenFor c text)
+AcceptedIff reads =
+    (text : List ℕ) (r : Answer) → reads text r → (r .refusal ≡ 0) ↔ ((c : Clock) × WrittenFor c text)
 
 -- what was written is read: the second, and whether it was a 60
 abbrev pub ReadsWritten : Writer → Type 0
 ReadsWritten write =
-    (c : Clock) (out : List ℕ) (r : Answer) → writeRefusal c out ≡ 0 → ReadsAs (take labelSize (write c out)) r
+    (c : Clock) (out : List ℕ) (r : Answer) → writeRefusal c out ≡ 0
+    → ReadsAs (take labelSize (write c out)) r
     → r ≡ label (c .seconds) (isSixty c)
 
 -- what was read is written again, by every clock that shows the second read, with a 60 or without

@@ -13,14 +13,16 @@ pub record WrittenFor (c : Clock) (text : List ℕ) : Type 0 where
   pub sound : inRange c ≡ true
   pub bytes : text ≡ clockLabel c
 
--- an accepted label's answer, and that of bytes that are none: 15 "not a label", and "a refused label second 0 and no 60"
+-- an accepted label's answer, and that of bytes that are none: 15 "not a label", and "a refused label second
+-- 0 and no 60"
 abbrev pub label : ℕ → Bool → Answer
 label s sixty = record { refusal = 0; seconds = s; sixty = sixty }
 
 abbrev pub noLabel : Answer
 noLabel = record { refusal = 15; seconds = 0; sixty = false }
 
--- "The reader accepts exactly the strings of twenty bytes that the writer can write, and gives seconds and whether it was a 60"
+-- "The reader accepts exactly the strings of twenty bytes that the writer can write, and gives seconds and
+-- whether it was a 60"
 pub data ReadsAs (text : List ℕ) : Answer → Type 0 where
   accepted : {c : Clock} → WrittenFor c text → ReadsAs text (label (c .seconds) (isSixty c))
   refused : ((c : Clock) → WrittenFor c text → ⊥) → ReadsAs text noLabel

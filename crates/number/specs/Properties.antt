@@ -1,5 +1,6 @@
--- What holds of every number: the statements that the crate proves of the definitions. Each is said of any reader, or of what
--- a size is told to be, and holds of `numberAt` and of the length of `bytesOf`. Those that they shut out are in `WrongReaders`.
+-- What holds of every number: the statements that the crate proves of the definitions. Each is said of any
+-- reader, or of what a size is told to be, and holds of `numberAt` and of the length of `bytesOf`. Those that
+-- they shut out are in `WrongReaders`.
 use mathlib.Core.Path.{_≡_}
 use mathlib.Core.Bool.{cond}
 use mathlib.Core.List.{List, _++_}
@@ -44,4 +45,5 @@ RefusedOnly read = (s : List ℕ) (at r : ℕ) → read s at ≡ refused r → (
 abbrev pub SizeTable : (ℕ → ℕ) → Type 0
 SizeTable size =
     (n : ℕ) → n < limit
-    → size n ≡ cond (ltb n (2 ^ 7)) 1 (cond (ltb n (2 ^ 14)) 2 (cond (ltb n (2 ^ 21)) 3 (cond (ltb n (2 ^ 28)) 4 5)))
+    → size n
+    ≡ cond (ltb n (2 ^ 7)) 1 (cond (ltb n (2 ^ 14)) 2 (cond (ltb n (2 ^ 21)) 3 (cond (ltb n (2 ^ 28)) 4 5)))

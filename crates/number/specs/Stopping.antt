@@ -26,7 +26,8 @@ pub record StopsWhen {A : Type 0} (x : Outcome A) (l : Layout A) (s : List ℕ) 
   pub always : Stops l s at r → x ≡ failed r
 
 abbrev pub LayoutExactlyWhen : LayoutReader → Type 1
-LayoutExactlyWhen read = (A : Type 0) (l : Layout A) (s : List ℕ) (at r : ℕ) → StopsWhen (read A l s at) l s at r
+LayoutExactlyWhen read =
+    (A : Type 0) (l : Layout A) (s : List ℕ) (at r : ℕ) → StopsWhen (read A l s at) l s at r
 
 -- a number that was read at place `at`, and is out of its range
 pub record Outside (range : ℕ → Bool) (s : List ℕ) (at : ℕ) : Type 0 where
@@ -39,12 +40,13 @@ pub record Outside (range : ℕ → Bool) (s : List ℕ) (at : ℕ) : Type 0 whe
 abbrev pub FieldReader : Type 0
 FieldReader = (ℕ → Bool) → List ℕ → ℕ → Found
 
--- a field fails to read exactly when its number does, with that number's refusal, or when it is out of range, with 12
--- (`fieldAt` does)
+-- a field fails to read exactly when its number does, with that number's refusal, or when it is out of range,
+-- with 12 (`fieldAt` does)
 pub record FailsWhen (x : Found) (range : ℕ → Bool) (s : List ℕ) (at r : ℕ) : Type 0 where
   pub only : x ≡ refused r → (numberAt s at ≡ refused r) ⊎ (Outside range s at × (r ≡ 12))
   pub unread : numberAt s at ≡ refused r → x ≡ refused r
   pub outside : Outside range s at → x ≡ refused 12
 
 abbrev pub FieldExactlyWhen : FieldReader → Type 0
-FieldExactlyWhen field = (range : ℕ → Bool) (s : List ℕ) (at r : ℕ) → FailsWhen (field range s at) range s at r
+FieldExactlyWhen field =
+    (range : ℕ → Bool) (s : List ℕ) (at r : ℕ) → FailsWhen (field range s at) range s at r

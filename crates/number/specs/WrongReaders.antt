@@ -1,5 +1,5 @@
--- Readers of numbers, fields and layouts that the statements of `Properties` and `Stopping` shut out: each is wrong in one way.
--- So none of the statements is empty.
+-- Readers of numbers, fields and layouts that the statements of `Properties` and `Stopping` shut out: each is
+-- wrong in one way. So none of the statements is empty.
 use mathlib.Core.Bool.{Bool, false, cond}
 use mathlib.Core.List.{List}
 use Prim.Native.Nat.{ℕ, suc, _+_}

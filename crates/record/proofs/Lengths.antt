@@ -18,7 +18,8 @@ use Rattle.record.specs.Properties.{Says, LongestIs, Longest, OneLongest
 use Rattle.record.proofs.FieldSizes.{lastMore, sizes}
 use Rattle.record.proofs.Saying.{choice, choice-numbers, flag-of, last-of, places-picked, said}
 
--- 40 bytes, those of kind, remainder and leftover where they are held, and those of what follows the flag of the earlier update
+-- 40 bytes, those of kind, remainder and leftover where they are held, and those of what follows the flag of
+-- the earlier update
 abbrev longestIn : ℕ → ℕ
 longestIn version = 40 + cond (holdsKind version) 1 0 + suc (lastMore version) + 2 * cond (holdsParts version) 1 0
 
@@ -30,8 +31,8 @@ no-record-longer : {version : ℕ} {c : Clock} {flag last : ℕ} → Says versio
 unfolding recordIn
 no-record-longer w = rw (most-bytes w, choice-numbers w) at (no-longer recordLayout sizes (choice w))
 
--- the numbers of a longest record: each at its greatest for the first device, a flag of 1 and what follows it, and remainder
--- and leftover, which have one byte whatever they are
+-- the numbers of a longest record: each at its greatest for the first device, a flag of 1 and what follows
+-- it, and remainder and leftover, which have one byte whatever they are
 abbrev greatest : ℕ → ℕ → List ℕ
 greatest version last =
     version

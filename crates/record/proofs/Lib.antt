@@ -1,6 +1,6 @@
--- The theorems that specs/Properties.antt states are in `RoundTrip`, `Versions`, `Refusals`, `Lengths` and `Examples`, and what they shut out
--- in `ShutOut`: they follow from the laws that hold of every layout (number's `Layouts`) by `Saying` and `FieldSizes`. The others serve
--- the proofs of the functions.
+-- The theorems that specs/Properties.antt states are in `RoundTrip`, `Versions`, `Refusals`, `Lengths` and
+-- `Examples`, and what they shut out in `ShutOut`: they follow from the laws that hold of every layout
+-- (number's `Layouts`) by `Saying` and `FieldSizes`. The others serve the proofs of the functions.
 pub mod Ranges
 pub mod FieldLaws
 pub mod SavingLaws

@@ -1,5 +1,5 @@
--- What was written is read, and what is read was written: `reads-back`, `nothing-follows`, `writes-newest`, `one-form`, `one-newest`; and
--- `saved-is-kept`, the same through a buffer.
+-- What was written is read, and what is read was written: `reads-back`, `nothing-follows`, `writes-newest`,
+-- `one-form`, `one-newest`; and `saved-is-kept`, the same through a buffer.
 use mathlib.Core.Path.{_≡_, refl, sym, _∙_, ap}
 use mathlib.Core.Bool.{true, false}
 use mathlib.Core.List.{List, _++_, append-nil}

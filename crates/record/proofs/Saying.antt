@@ -1,4 +1,5 @@
--- A record that says a clock in range is one whose numbers the layout allows, and every choice of such numbers says a clock.
+-- A record that says a clock in range is one whose numbers the layout allows, and every choice of such
+-- numbers says a clock.
 use mathlib.Core.Path.{_≡_, refl, sym, _∙_, ap}
 use mathlib.Core.Bool.{Bool, true, false, _&&_, false≢true, and-assoc, and-false}
 use mathlib.Core.Bool.{and-true as and-one}

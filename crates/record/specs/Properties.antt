@@ -1,6 +1,7 @@
--- What holds of all records: the statements that the crate proves of the definitions, for whoever wants to know what the
--- field-by-field definitions come to. Each is said of any reader or writer, and holds of those that the contracts name:
--- `readingOf`, `recordOf`, `savingOf` with `bufferAfter`. Those that they shut out are in `WrongReaders`.
+-- What holds of all records: the statements that the crate proves of the definitions, for whoever wants to
+-- know what the field-by-field definitions come to. Each is said of any reader or writer, and holds of those
+-- that the contracts name: `readingOf`, `recordOf`, `savingOf` with `bufferAfter`. Those that they shut out
+-- are in `WrongReaders`.
 use mathlib.Core.Path.{_≡_}
 use mathlib.Core.Bool.{Bool, true}
 use mathlib.Core.List.{List, [], _∷_, _++_}
@@ -133,7 +134,8 @@ pub record OfVersion1 (s : List ℕ) (c : Clock) : Type 0 where
 pub record Version1 (read : Reader) (write : Writer) : Type 0 where
   pub only : (s : List ℕ) → Bytes s → read s .refusal ≡ 0 → versionOf s ≡ 1 → OfVersion1 s (read s .clock)
   pub always : (s : List ℕ) (c : Clock) → OfVersion1 s c → read s ≡ accepted c
-  pub after : (s : List ℕ) (c : Clock) → OfVersion1 s c → write c ≡ newest ∷ kind256 ∷ drop 1 (recordIn 2 c 0 0) ++ noParts
+  pub after : (s : List ℕ) (c : Clock) → OfVersion1 s c
+      → write c ≡ newest ∷ kind256 ∷ drop 1 (recordIn 2 c 0 0) ++ noParts
 
 -- ---- what is refused
 
@@ -164,8 +166,8 @@ pub record RefusedWhen (read : Reader) (s : List ℕ) (r : ℕ) : Type 0 where
 abbrev pub ExactlyWhen : Reader → Type 0
 ExactlyWhen read = (s : List ℕ) (r : ℕ) → 0 < r → RefusedWhen read s r
 
--- .. as of these: no bytes, a version of two bytes whose last is 0, version 5, kind 2 in a record of the newest version,
--- and document 01's record of the fresh clock with a byte after its end
+-- .. as of these: no bytes, a version of two bytes whose last is 0, version 5, kind 2 in a record of the
+-- newest version, and document 01's record of the fresh clock with a byte after its end
 pub record Refusals : Type 0 where
   pub ends : readingOf [] ≡ refusedWith 10
   pub long : readingOf (0x81 ∷ 0x00 ∷ []) ≡ refusedWith 11

@@ -1,5 +1,5 @@
--- Readers and writers that the statements of `Properties` shut out: each is wrong in one way, and right but for that where
--- it can be. So none of the statements is empty.
+-- Readers and writers that the statements of `Properties` shut out: each is wrong in one way, and right but
+-- for that where it can be. So none of the statements is empty.
 use mathlib.Core.Bool.{cond}
 use mathlib.Core.List.{List}
 use Prim.Native.Nat.{ℕ}
@@ -54,7 +54,8 @@ pub record ShutOut : Type 0 where
   pub writing3 : Version3 readingOf writesVersion3 → ⊥
   pub writing2 : Version2 readingOf writesVersion3 → ⊥
   pub writing1 : Version1 readingOf writesVersion3 → ⊥
-  -- refusals: numbers next to 10 and 13, another clock, one that is given too often, and one that is not given
+  -- refusals: numbers next to 10 and 13, another clock, one that is given too often, and one that is not
+  -- given
   pub nine : RefusedIsFresh (refusesWith 9) → ⊥
   pub fourteen : RefusedIsFresh (refusesWith 14) → ⊥
   pub otherKind : RefusedIsFresh givesKind1 → ⊥

@@ -7,7 +7,8 @@ use Rattle.record.proofs.field.plain.Tie as tie
 
 returns : tie.Need-returns
 returns c =
-    field-no _ _ _ (c .before .before .before .read .ensures) (c .before .enum-told .given .1) (c .refusal-of .ensures)
+    let d = c .before .before .before in
+    field-no _ _ _ (d .read .ensures) (c .before .enum-told .given .1) (c .refusal-of .ensures)
 
 cast-t9 : tie.Need-cast-t9
 cast-t9 c = search needs

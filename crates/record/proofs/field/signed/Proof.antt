@@ -27,7 +27,8 @@ fits-value c = search needs
 
 returns : tie.Need-returns
 returns c =
-    field-no _ _ _ (c .before .before .before .read .ensures) (c .before .enum-told .given .1) (c .refusal-of .ensures)
+    let d = c .before .before .before in
+    field-no _ _ _ (d .read .ensures) (c .before .enum-told .given .1) (c .refusal-of .ensures)
 
 cast-if1 : tie.Need-cast-if1
 cast-if1 c = rw (toZ-ofZ (fits-least (start c))) (widen (fits-least (start c)))

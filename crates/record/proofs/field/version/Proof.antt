@@ -9,7 +9,8 @@ use Rattle.record.proofs.field.version.Tie as tie
 
 returns : tie.Need-returns
 returns c =
-    field-no _ _ _ (c .before .before .before .read .ensures) (c .before .enum-told .given .1) (c .refusal-of .ensures)
+    let d = c .before .before .before in
+    field-no _ _ _ (d .read .ensures) (c .before .enum-told .given .1) (c .refusal-of .ensures)
 
 returns-2 : tie.Need-returns-2
 returns-2 c =
