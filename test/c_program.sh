@@ -147,7 +147,10 @@ else
     fi
     tell "the libraries stand alone" stand_alone
     for program in lent_clock rig; do
-        untouched "c/$program.c" c/clocks.h c/heukelvos.h && { pass_over "c/$program.c" "it is as it was"; continue; }
+        if untouched "c/$program.c" c/clocks.h c/heukelvos.h; then
+            pass_over "c/$program.c" "it is as it was"
+            continue
+        fi
         tell "c/$program.c is built" built "$program"
         tell "c/$program.c finds nothing wrong" nothing_wrong "$program"
         case $program in

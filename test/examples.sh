@@ -29,7 +29,7 @@ wrong_ones_are_seen() {
     done
     cp examples/inserted_second.out "$work/planted.out"
     example "$work/planted" || return 1
-    printf '%s\n' '#!/bin/sh' 'case $1 in text) echo print ;; *) exec bin/history bytes ;; esac' >"$work/forgetful"
+    printf '%s\n' '#!/bin/sh' '[ "$1" = bytes ] && exec bin/history bytes' 'echo print' >"$work/forgetful"
     chmod +x "$work/forgetful"
     history=$work/forgetful
     if example "$work/planted"; then echo "not seen: a text that does not come back"; return 1; fi

@@ -79,7 +79,8 @@ longest_text() {
     status_of bin/history bytes <"$work/longer"
     refused_with 1 'history: line 1: a line has at most 524288 characters: print ##xxx' || return 1
     awk 'BEGIN { for (i = 0; i < 262143; i++) print "       "; print "  print" }' >"$work/text"
-    [ "$(wc -c <"$work/text")" -eq 2097152 ] && [ "$(bin/history bytes <"$work/text" | od -An -tx1)" = ' 03' ] || { echo "the longest text"; return 1; }
+    [ "$(wc -c <"$work/text")" -eq 2097152 ] && [ "$(bin/history bytes <"$work/text" | od -An -tx1)" = ' 03' ] ||
+        { echo "the longest text"; return 1; }
 }
 
 tell_awks "an input without end" endless

@@ -14,7 +14,7 @@ bad_usage() {
 helps() {
     for word in -h --help; do
         status_of bin/history "$word" <&-
-        [ "$status" -eq 0 ] && [ ! -s "$work/said" ] && grep -q '^Histories for the replay program' "$work/out" &&
+        [ "$status" -eq 0 ] && [ ! -s "$work/said" ] && grep -q '^Histories for the replay' "$work/out" &&
             grep -qF 'bin/history bytes <TEXT >BYTES' "$work/out" && grep -q '^Example' "$work/out" &&
             grep -q '^Exit status: 0; 1 ' "$work/out" || shown "$word" || return 1
         if grep -q -e '^#' -e 'set -u' "$work/out"; then echo "more than the head of the file"; return 1; fi
@@ -27,10 +27,12 @@ helps() {
 example_of_help() {
     mkdir -p "$work/example"
     ln -sf "$top/bin" "$work/example"
-    bin/history --help | sed -n '/^Example/,/^Units/s/^  \([a-z}].*\)/\1/p' | grep -v '^bin/' >"$work/example/day.txt"
+    bin/history --help | sed -n '/^Example/,/^Units/s/^  \([a-z}].*\)/\1/p' | grep -v '^bin/' \
+        >"$work/example/day.txt"
     example=$(bin/history --help | sed -n 's/^  \(bin\/history bytes <day.txt [^ ]* && [^ ]* [^ ]*\) .*/\1/p')
     (cd "$work/example" && sh -c "$example") >"$work/lines" || return 1
-    [ "$(wc -l <"$work/lines")" -eq 10 ] && grep -q '^1970-01-02T00:00:00Z ' "$work/lines" || { cat "$work/example/day.txt" "$work/lines"; return 1; }
+    [ "$(wc -l <"$work/lines")" -eq 10 ] && grep -q '^1970-01-02T00:00:00Z ' "$work/lines" ||
+        { cat "$work/example/day.txt" "$work/lines"; return 1; }
 }
 
 failed_write() {

@@ -47,7 +47,10 @@ if [ "$(cat target/stamp/replay 2>/dev/null)" != "$sources" ] && [ "$orders" != 
     case $orders in
     break) echo '#!/nowhere/sh' ;;
     tire) printf '%s\n' '#!/bin/sh' 'kill -9 $$' ;;
-    watch) printf '%s\n' '#!/bin/sh' 'trap ": >\"\$KIT/heard\"; exit 1" TERM' ': >"$KIT/ready"; sleep 8 & wait; echo late' ;;
+    watch)
+        printf '%s\n' '#!/bin/sh' 'trap ": >\"\$KIT/heard\"; exit 1" TERM' \
+            ': >"$KIT/ready"; sleep 8 & wait; echo late'
+        ;;
     *) printf '%s\n' '#!/bin/sh' cat ;;
     esac >target/bin/replay
     chmod +x target/bin/replay
@@ -151,7 +154,8 @@ refused_crate() {
     echo fail >"$kit/orders"
     KIT=$kit PATH=$kit:$PATH status_of "$repo/bin/replay" </dev/null
     refused_with 1 'replay: the program could not be built; target/log/replay.build has all that was said' || return 1
-    grep -qx 'logic=proved functions=7 a long line of the prover' "$repo/target/log/replay.build" || { echo "the log is not kept"; return 1; }
+    grep -qx 'logic=proved functions=7 a long line of the prover' "$repo/target/log/replay.build" ||
+        { echo "the log is not kept"; return 1; }
     grep -qx 'crates/replay/src/main.rt:3:7: error: a need is left' "$work/said" || shown "the error is not shown" || return 1
     grep -qx 'rt: replay NOT PROVED (exit 1, 3 s)' "$work/said" || shown "the crate is not named" || return 1
     if grep -q 'a long line of the prover' "$work/said"; then echo "the whole log is shown"; return 1; fi
@@ -168,7 +172,9 @@ few_tools() {
     new_repository
     rm -rf "$work/tools"
     mkdir "$work/tools"
-    for tool in sh timeout awk dirname find ls mkdir mkfifo mktemp rm touch; do ln -s "$(command -v "$tool")" "$work/tools/$tool"; done
+    for tool in sh timeout awk dirname find ls mkdir mkfifo mktemp rm touch; do
+        ln -s "$(command -v "$tool")" "$work/tools/$tool"
+    done
     PATH=$work/tools status_of "$repo/bin/replay" </dev/null
     refused_with 2 "replay: the Rattle kit's rt is not on the PATH" || return 1
     replay_once || return 1
@@ -196,7 +202,8 @@ failing_awk() {
     rm "$work/wrong/awk"
     printf '#!/bin/sh\nexit 1\n' >"$work/wrong/find"
     chmod +x "$work/wrong/find"
-    (PATH=$work/wrong:$PATH && replay_once) && [ "$(calls)" -eq 2 ] || { echo "a find that fails: $(calls) calls"; return 1; }
+    (PATH=$work/wrong:$PATH && replay_once) && [ "$(calls)" -eq 2 ] ||
+        { echo "a find that fails: $(calls) calls"; return 1; }
     rm "$work/wrong/find"
 }
 

@@ -19,10 +19,12 @@ true_kit() {
 lost_program() {
     copy=$work/lost
     mkdir -p "$copy/target"
-    cp -R bin crates crates.txt "$copy" && cp -R target/stamp "$copy/target" && ln -s "$top/target/rlib" "$copy/target" || return 1
+    cp -R bin crates crates.txt "$copy" && cp -R target/stamp "$copy/target" || return 1
+    ln -s "$top/target/rlib" "$copy/target"
     [ -f "$copy/target/stamp/replay" ] || { echo "the program is not proved: run 'rt check replay'"; return 1; }
     printf '\003' >"$work/bytes"
-    "$copy/bin/replay" <"$work/bytes" >"$work/out" 2>"$work/said" && [ -x "$copy/target/bin/replay" ] || { cat "$work/said"; return 1; }
+    "$copy/bin/replay" <"$work/bytes" >"$work/out" 2>"$work/said" && [ -x "$copy/target/bin/replay" ] ||
+        { cat "$work/said"; return 1; }
     [ "$(grep -c 'proved (unchanged' "$work/said")" -ge 10 ] || { cat "$work/said"; return 1; }
     [ "$(cat "$work/out")" = '1970-01-01T00:00:00Z 000000 4' ]
 }

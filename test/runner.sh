@@ -103,7 +103,8 @@ in bin/replay, noticed by replay_script
 + play
 EDITS
     EDITS=$work/edits_planted status_of_work 60 test/run broken
-    printf '%s\n' 'a copy that is not broken: as it should be' 'noticed: arguments are taken (replay_script): as it should be' \
+    printf '%s\n' 'a copy that is not broken: as it should be' \
+        'noticed: arguments are taken (replay_script): as it should be' \
         'noticed: nothing is wrong (replay_script): NOT as it should be' '    test/run replay_script passes' \
         'noticed: no such text (replay_script): NOT as it should be' \
         "    the edit does not fit bin/replay: 'no such text' does not stand there once" \
