@@ -18,7 +18,7 @@ replace() { # FILE OLD NEW
 new_copy() {
     rm -rf "$work/broken"
     mkdir -p "$work/broken/target/bin"
-    cp -R bin .ci test examples docs crates crates.txt c bench README.md CONTRIBUTING.md "$work/broken"
+    cp -R bin .ci test examples docs crates crates.txt c bench README.md CONTRIBUTING.md LICENSE "$work/broken"
     [ ! -d target/rlib ] || { ln -s "$top/target/rlib" "$work/broken/target/rlib" && cp -R target/stamp "$work/broken/target"; }
     [ ! -d target/staticlib ] || cp -R target/staticlib "$work/broken/target"
     cp target/bin/replay "$work/broken/target/bin/replay"
