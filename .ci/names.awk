@@ -46,7 +46,8 @@ law != "" && /[^ ]/ && indent() > margin {
 
 in_specs && /^(abbrev |unfoldable )?pub / {
     is_statement = /^(abbrev |unfoldable )?pub (record )?[^ ]+ : Type [0-9]( where)?$/
-    emit("definition", name_of(), is_statement ? "statement" : "")
+    is_family = /^(abbrev |unfoldable )?pub [^ ]+ : .*→ Type [0-9]$/ || /^pub record [^ ]+ \(.*\) : Type [0-9] where$/
+    emit("definition", name_of(), is_statement ? "statement" : is_family ? "family" : "")
     next
 }
 

@@ -15,7 +15,9 @@ files == 1 {
     known[$2] = 1
     in_file[$2, $3] = 1
     if ($1 == "theorem" || $1 == "law") type[$2, $3, $4] = is_type[$2, $4] = 1
+    if ($1 == "definition") is_defined[$2] = 1
     if ($4 == "statement") is_statement[$2] = 1
+    if ($4 == "family") is_family[$2] = 1
     if ($1 == "theorem") {
         theorem[++theorems] = $2
         statement[theorems] = $4
@@ -108,6 +110,14 @@ function names_of(cell,    names) {
     return names
 }
 
+# Whether a type is a statement of specs/, or one of what answers, reads or writes that is said of definitions alone.
+function of_specs(says,    n, i, word) {
+    if (says in is_statement) return 1
+    n = split(says, word, " ")
+    for (i = 1; i <= n; i++) if (!(word[i] in is_defined)) return 0
+    return n > 1 && (word[1] in is_family)
+}
+
 function unquoted(cell) {
     gsub(/^ *`|` *$/, "", cell)
     return cell
@@ -122,7 +132,7 @@ function read_theorem(cell, place,    name, says, file, n, i, list, found) {
     file = "crates/" file
     n = split(names_of(cell[5]), list, " ")
     for (i = 1; i <= n; i++) if ((list[i], crate) in is_kept) found = 1
-    if ((says in is_statement) && !found)
+    if (of_specs(says) && !found)
         fault(place, "`" name "` has no lie of crates/" crate "/must-fail/ or lies/ in its row: add one, and its name")
     rows++
     if ((name, file, says) in type) is_held[name, file] = 1
@@ -162,7 +172,7 @@ function read_refused(cell,    i, n, list, last) {
 
 function hold_theorems(    i) {
     for (i = 1; i <= theorems; i++) {
-        if (!(statement[i] in is_statement) || ((theorem[i], where[i]) in is_held)) continue
+        if (!of_specs(statement[i]) || ((theorem[i], where[i]) in is_held)) continue
         file = where[i]
         sub(/^crates\//, "", file)
         fault(where[i], "`" theorem[i] "` is in no row under \"The theorems\" of docs/PROMISES.md; add: | `" \
