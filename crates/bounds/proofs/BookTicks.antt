@@ -25,8 +25,8 @@ counted set tick n = cond set 0 (n + cond tick 1 0)
 module _ (c : Clock) (b : Book) where
   tick-n : (t o : Bool) → accepted c call.Tick ≡ t → rollsOver c ≡ o
       → callBook c call.Tick b .n ≡ counted false t (b .n)
-  tick-n true true t o = simp (t, o) refl
-  tick-n true false t o = simp (t, o) refl
+  tick-n true true t o = simp (t, o) (omega arith)
+  tick-n true false t o = simp (t, o) (omega arith)
   tick-n false o t p = simp t (omega arith)
 
   request-n : (r : Request) (t o : Bool) → accepted c (call.Request r) ≡ t → selectsOffset r ≡ o

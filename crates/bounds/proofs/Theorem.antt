@@ -3,11 +3,11 @@
 use mathlib.Core.Path.{_≡_, ap, subst}
 use mathlib.Core.Bool.{true}
 use mathlib.Core.List.{List, [], _∷_, _++_}
-use Prim.Native.Nat.{ℕ, _+_, _*_, _/_, _≤_, _<_}
+use Prim.Native.Nat.{ℕ, _+_, _*_, _/_, _≤_}
 use native.Mathlib.Omega.{arith}
 use native.Mathlib.Nat.{mul-le-mul-left}
 use borrow.Author.Tests.{leb-true}
-use lib.IntN.{pos, natAbs, _+ℤ_, _-ℤ_}
+use lib.IntN.{pos, _+ℤ_, _-ℤ_}
 use Rattle.integers.proofs.Parts.{posPart, negPart, one-part, abs-parts}
 use Rattle.integers.proofs.Linear.{self, lit, add, sub, times}
 use Rattle.integers.proofs.Carrying.{same}
@@ -26,7 +26,7 @@ use Rattle.bounds.specs.Singly.{singleTicks, singlyFrom, singly, asEvent
 use Rattle.bounds.specs.Measure.{measureOf}
 use Rattle.bounds.specs.Book.{Book, emptyBook, bookFrom}
 use Rattle.bounds.specs.Demand.{bookOn, bookOf, NearExact, FirstBound, AtRollover, SecondBound, ThirdBound, Demand3OfEveryList}
-use Rattle.bounds.specs.Lossless.{heldTime, NothingLost, NothingLostInEveryList}
+use Rattle.bounds.specs.Lossless.{heldTime, WithinMicro, NothingLost, NothingLostInEveryList}
 use Rattle.bounds.proofs.Runs.{after-kind, read-ok}
 use Rattle.bounds.proofs.MeasureLaws.{measured}
 use Rattle.bounds.proofs.Singly.{after-singly, clock-last, clock-then, book-last}
@@ -59,7 +59,7 @@ module _ (c : Clock) (b : Book) (i : Inv c b) where
   abbrev perMicro : ℕ
   perMicro = measureOf (c .kind) .perMicro
 
-  below : natAbs (pos (perMicro * told c) -ℤ b .exact) < perMicro
+  below : WithinMicro (measureOf (c .kind)) (told c) b
   below =
       let m = measured (c .kind) in
       let d = add (lit (268435456 * told c)) (self (c .phase .0)) in
