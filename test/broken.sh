@@ -4,7 +4,7 @@
 # shellcheck shell=sh
 
 edits=$work/edits list=${EDITS:-test/broken.edits}
-parts='bin .ci test examples docs crates crates.txt c bench README.md CONTRIBUTING.md'
+parts='bin .ci test examples docs crates crates.txt c bench README.md CONTRIBUTING.md LICENSE'
 
 # Puts one text, which stands there once, in the place of another.
 replace() { # FILE OLD NEW
