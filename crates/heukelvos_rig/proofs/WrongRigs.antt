@@ -10,7 +10,7 @@ use borrow.Author.Tests.{eqb-false}
 use Rattle.state.specs.Device.{deviceOf, kind256, kind1024}
 use Rattle.state.specs.State.{freshClock, inRange}
 use Rattle.state.specs.declared.state.Clock.{Clock}
-use Rattle.clock.specs.Reading.{readingOf, readingRefusal}
+use Rattle.clock.specs.Reading.{toldOf, readingRefusal}
 use Rattle.clock.specs.Tick.{unitIn, ticked, tickRefusal, tickOf}
 use Rattle.rig.specs.Rig.{clockAt, answerAt, tableAt}
 use Rattle.rig.specs.declared.rig.Answer.{Answer}
@@ -49,7 +49,7 @@ abbrev none : List Clock
 none = freshClock 2 ∷ []
 
 pub shut-out : ShutOut
-unfolding deviceOf inRange readingOf readingRefusal unitIn ticked tickRefusal tickOf answerAt tableAt codedAnswerAt codedTableAt
+unfolding deviceOf inRange toldOf readingRefusal unitIn ticked tickRefusal tickOf answerAt tableAt codedAnswerAt codedTableAt
 shut-out =
     record {
       taking = λ every. eqb-false _ _ refl (ap (λ (r : Answer). r .refusal) (every a 0 (coded 5) .unknown (λ q. omega (arith, q)) .0));

@@ -9,7 +9,7 @@ use borrow.Author.Tests.{eqb-false}
 use Rattle.state.specs.Device.{deviceOf, kind256, kind1024}
 use Rattle.state.specs.State.{freshClock, inRange}
 use Rattle.state.specs.declared.state.Clock.{Clock}
-use Rattle.clock.specs.Reading.{readingOf, readingRefusal}
+use Rattle.clock.specs.Reading.{toldOf, readingRefusal}
 use Rattle.event.specs.declared.event.Call.the-variants.{Reading}
 use Rattle.event.specs.declared.event.Event.the-variants.{Call}
 use Rattle.rig.specs.Rig.{clockAt, answerAt, tableAt}
@@ -27,7 +27,7 @@ abbrev none : Clock
 none = freshClock 2
 
 pub shut-out : ShutOut
-unfolding answerAt tableAt inRange deviceOf readingOf readingRefusal
+unfolding answerAt tableAt inRange deviceOf toldOf readingRefusal
 shut-out =
     record {
       examining = λ decides.

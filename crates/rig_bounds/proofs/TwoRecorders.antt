@@ -5,7 +5,7 @@ use Prim.Native.Nat.{ℕ, _<_}
 use native.Mathlib.Omega.{arith}
 use Rattle.state.specs.Device.{deviceOf, kind256, kind1024}
 use Rattle.state.specs.State.{freshClock, inRange}
-use Rattle.clock.specs.Reading.{readingOf, readingRefusal}
+use Rattle.clock.specs.Reading.{toldOf, readingRefusal}
 use Rattle.clock.specs.Tick.{unitIn, ticked, tickRefusal, tickOf}
 use Rattle.clock.specs.Setting.{settingRefusal, settingOf}
 use Rattle.event.specs.declared.event.Call.the-variants.{Tick}
@@ -32,7 +32,7 @@ first =
     demand3-of-rig .set (freshClock kind256) (seenAt 0) (one-table 0 both inTurn (omega arith)) 5 _ (Call Tick ∷ []) refl refl
 
 pub of-two-recorders : OfTwoRecorders
-unfolding deviceOf measureOf inRange readingOf readingRefusal unitIn ticked tickRefusal tickOf settingRefusal settingOf answerAt tableAt afterBy countAmong noneAmong singlyFrom ownEvents callsInTurn tableFrom
+unfolding deviceOf measureOf inRange toldOf readingRefusal unitIn ticked tickRefusal tickOf settingRefusal settingOf answerAt tableAt afterBy countAmong noneAmong singlyFrom ownEvents callsInTurn tableFrom
 of-two-recorders =
     record {
       demand = second .demand .third [] (Call Tick ∷ []) [] refl refl;

@@ -9,7 +9,7 @@ use borrow.Author.Tests.{eqb-false, leb-false, ltb-false}
 use Rattle.state.specs.Device.{deviceOf, kind256}
 use Rattle.state.specs.State.{freshClock, inRange}
 use Rattle.state.specs.declared.state.Clock.{Clock}
-use Rattle.clock.specs.Reading.{readingOf, readingRefusal}
+use Rattle.clock.specs.Reading.{toldOf, readingRefusal}
 use Rattle.clock.specs.Tick.{unitIn, ticked, tickRefusal, tickOf}
 use Rattle.clock.specs.Setting.{settingRefusal, settingOf}
 use Rattle.event.specs.Event.{stepOf}
@@ -32,7 +32,7 @@ not-most : {m n : ℕ} → leb m n ≡ false → m ≤ n → ⊥
 not-most {m} {n} t l = omega (arith, leb-false m n t)
 
 pub shut-out : ShutOut
-unfolding deviceOf measureOf inRange readingOf readingRefusal unitIn ticked tickRefusal tickOf settingRefusal settingOf answerAt tableAt afterBy countAmong noneAmong singlyFrom bookFrom ownEvents OnlyTheseChange callsInTurn
+unfolding deviceOf measureOf inRange toldOf readingRefusal unitIn ticked tickRefusal tickOf settingRefusal settingOf answerAt tableAt afterBy countAmong noneAmong singlyFrom bookFrom ownEvents OnlyTheseChange callsInTurn
 shut-out =
     record {
       answering = (omega arith, refl, tt);
