@@ -66,6 +66,7 @@ pub record AsNamed (kind : ℕ) : Type 0 where
   pub begunNot : wrong.begun (atFirstShare kind) ≡ false
   pub begun : wrong.begun (clockAfter kind (wrong.asked (Call Tick ∷ []))) ≡ true
   pub paysFirst : Same (λ a. a) wrong.pretends (atFirstShare kind) (Call Tick)
+  pub rollsAtSecond : stepOf (atSecondShare kind) (Call Tick) .clock .seconds ≡ 1
   pub takesLater : Same (λ a. a .clock .offset) wrong.pretends (atSecondShare kind) (Call Tick)
   pub paysNoLater :
       wrong.pretends (atSecondShare kind) (Call Tick) .clock .adjustment ≡ freshClock kind .adjustment
