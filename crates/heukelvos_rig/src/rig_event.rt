@@ -47,6 +47,7 @@ fn event_of(e: CodedEvent) -> Event
             let request = e.request;
             Event::Call(Call::Request(request))
         }
+        3 => Event::Call(Call::Reading),
         4 => Event::CatchUp(e.ceiling, e.stop),
         _ => Event::Call(Call::Reading),
     }
