@@ -28,7 +28,7 @@ use Rattle.bounds.specs.WrongClocks.{leaving, callLeaves, reads, readsZe
 abbrev pub onKind : {E : Type 0} → ℕ → (rules wrong : Clock → E → Stepped) → Clock → E → Stepped
 onKind kind rules wrong c e = cond (eqb (c .kind) kind) (wrong c e) (rules c e)
 
-abbrev pub timeFrom : ℕ → ℕ → PhaseUnits → PhaseParts → Time
+abbrev pub timeFrom : ℕ → ℕ → PhaseUnits → PhaseParts → Moment
 timeFrom s u p l = record { seconds = s; micros = micros u; phase = p; leftover = l }
 
 -- a clock, but for its time

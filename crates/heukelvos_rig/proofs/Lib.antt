@@ -1,2 +1,4 @@
+pub mod EveryEvent
+pub mod LentTable
 pub mod RigEvent
 pub mod WrongRigs

@@ -1,10 +1,6 @@
 -- The wrong rigs for C are none by the rules: each computed at a table of one clock.
-use mathlib.Core.Path.{_≡_, refl, ap}
-use mathlib.Core.Bool.{false}
+use mathlib.Core.Path.{refl, ap}
 use mathlib.Core.List.{List, [], _∷_}
-use Prim.Native.Nat.{ℕ}
-use lib.Dec.{eqb}
-use lib.IntN.{pos}
 use native.Mathlib.Omega.{arith}
 use borrow.Author.Tests.{eqb-false}
 use Rattle.state.specs.Device.{deviceOf, kind256, kind1024}
@@ -16,27 +12,7 @@ use Rattle.rig.specs.Rig.{clockAt, answerAt, tableAt}
 use Rattle.rig.specs.declared.rig.Answer.{Answer}
 use Rattle.heukelvos_rig.specs.RigEvent.{codedAnswerAt, codedTableAt}
 use Rattle.heukelvos_rig.specs.WrongRigs.{ShutOut}
-use Rattle.heukelvos_rig.specs.declared.rig_event.CodedEvent.{CodedEvent}
-
--- an event of a code, with zeros for all numbers
-abbrev coded : ℕ → CodedEvent
-coded code =
-    record {
-      code = code;
-      seconds = 0;
-      micros = record { 0 = 0 };
-      request = record {
-        mode = 0;
-        offset = record { 0 = pos 0 };
-        frequency = record { 0 = pos 0 };
-        maxerror = record { 0 = 0 };
-        esterror = record { 0 = 0 };
-        status = 0;
-        constant = 0;
-      };
-      ceiling = 0;
-      stop = false;
-    }
+use Rattle.heukelvos_rig.proofs.EveryEvent.{codedBy}
 
 abbrev a : List Clock
 a = freshClock kind256 ∷ []
@@ -52,11 +28,11 @@ pub shut-out : ShutOut
 unfolding deviceOf inRange toldOf readingRefusal unitIn ticked tickRefusal tickOf answerAt tableAt codedAnswerAt codedTableAt
 shut-out =
     record {
-      taking = λ every. eqb-false _ _ refl (ap (λ (r : Answer). r .refusal) (every a 0 (coded 5) .unknown (λ q. omega (arith, q)) .0));
-      ticking = λ every. eqb-false _ _ refl (ap (λ (r : Answer). r .reading .maxerror .0) (every a 0 (coded 3) .known refl .0));
-      storing = λ every. eqb-false _ _ refl (ap (λ (cs : List Clock). clockAt cs 0 .micros .0) (every a 0 (coded 0) .known refl .1));
+      taking = λ every. eqb-false _ _ refl (ap (λ (r : Answer). r .refusal) (every a 0 (codedBy 5) .unknown (λ q. omega (arith, q)) .0));
+      ticking = λ every. eqb-false _ _ refl (ap (λ (r : Answer). r .reading .maxerror .0) (every a 0 (codedBy 3) .known refl .0));
+      storing = λ every. eqb-false _ _ refl (ap (λ (cs : List Clock). clockAt cs 0 .micros .0) (every a 0 (codedBy 0) .known refl .1));
       clearing = λ every.
-          eqb-false _ _ refl (ap (λ (cs : List Clock). clockAt cs 0 .kind) (every b 0 (coded 5) .unknown (λ q. omega (arith, q)) .1));
+          eqb-false _ _ refl (ap (λ (cs : List Clock). clockAt cs 0 .kind) (every b 0 (codedBy 5) .unknown (λ q. omega (arith, q)) .1));
       clearingKnown = λ every.
-          eqb-false _ _ refl (ap (λ (cs : List Clock). clockAt cs 0 .kind) (every none 0 (coded 3) .kept (λ q. omega (arith, q))));
+          eqb-false _ _ refl (ap (λ (cs : List Clock). clockAt cs 0 .kind) (every none 0 (codedBy 3) .kept (λ q. omega (arith, q))));
     }

@@ -9,10 +9,9 @@ use Rattle.state.specs.declared.state.Clock.{Clock}
 use Rattle.event.specs.declared.event.Call.the-variants.{Tick, Setting, Request, Reading}
 use Rattle.event.specs.declared.event.Event.{Event}
 use Rattle.event.specs.declared.event.Event.the-variants.{Call, CatchUp}
-use Rattle.rig.specs.Rig.{bareAnswer, answerAt, tableAt}
+use Rattle.rig.specs.Rig.{tableRefusal, bareAnswer, answerAt, tableAt}
 use Rattle.rig.specs.declared.rig.Answer.{Answer}
 use Rattle.heukelvos_rig.specs.declared.rig_event.CodedEvent.{CodedEvent}
-use Rattle.heukelvos_rig.specs.declared.rig_event.Decoded.{Decoded}
 
 -- document 01: 12 "unknown [..] event code"
 abbrev pub codeRefusal : ℕ → ℕ
@@ -26,12 +25,18 @@ eventOf e =
     (cond (eqb (e .code) 2) (Call (Request (e .request)))
     (cond (eqb (e .code) 4) (CatchUp (e .ceiling) (e .stop)) (Call Reading))))
 
--- the event of a known code
-abbrev pub known : Event → Decoded
-known e = record { answer = bareAnswer 0; event = e }
+-- every event has a code: the lent table takes them all
+pub record CodeOf (e : Event) : Type 0 where
+  pub coded : CodedEvent
+  pub known : codeRefusal (coded .code) ≡ 0
+  pub event : eventOf coded ≡ e
 
-abbrev pub decodedOf : CodedEvent → Decoded
-decodedOf e = record { answer = bareAnswer (codeRefusal (e .code)); event = eventOf e }
+abbrev pub EveryEventCoded : Type 0
+EveryEventCoded = (e : Event) → CodeOf e
+
+-- what is refused before a clock is looked at: 12, then 19 and 18
+abbrev pub codedRefusal : ℕ → ℕ → ℕ → ℕ
+codedRefusal clocks place code = refuse (ltb 4 code) 12 (tableRefusal clocks place)
 
 -- The call's answer and the table after it: 12 comes before the table is looked at; else all is as for the event.
 unfoldable pub codedAnswerAt : List Clock → ℕ → CodedEvent → Answer

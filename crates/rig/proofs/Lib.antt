@@ -1,4 +1,3 @@
-pub mod LentTable
 pub mod OneClock
 pub mod Place
 pub mod WrongRigs

@@ -1,10 +1,7 @@
 -- The wrong rigs do not have the properties of one: each computed at a table.
-use mathlib.Core.Path.{_≡_, refl, ap}
-use mathlib.Core.Bool.{false}
+use mathlib.Core.Path.{refl, ap}
 use mathlib.Core.List.{List, [], _∷_}
-use Prim.Native.Nat.{ℕ}
 use native.Mathlib.Omega.{arith}
-use lib.Dec.{eqb}
 use borrow.Author.Tests.{eqb-false}
 use Rattle.state.specs.Device.{deviceOf, kind256, kind1024}
 use Rattle.state.specs.State.{freshClock, inRange}

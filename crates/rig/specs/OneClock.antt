@@ -14,7 +14,7 @@ pub record Rig : Type 0 where
   pub answer : List Clock → ℕ → Event → Answer
   pub left : List Clock → ℕ → Event → List Clock
 
--- by the rules: what `rig::event_at` promises to be
+-- by the rules: what `heukelvos_event_at` promises to be, for the event of its code
 abbrev pub theRig : Rig
 theRig = record { answer = answerAt; left = tableAt }
 

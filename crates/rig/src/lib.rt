@@ -3,6 +3,8 @@ mod rig;
 
 pub use rig::Answer;
 pub use rig::MAX_CLOCKS;
+pub use rig::Parted;
 pub use rig::bare_answer;
-pub use rig::event_at;
+pub use rig::event_on;
 pub use rig::most_clocks;
+pub use rig::table_answer;

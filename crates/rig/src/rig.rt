@@ -1,8 +1,8 @@
-// The table of clocks is lent with an event and a place. The call is the one on a single clock: that clock is copied out, and stored back
-// where the event was accepted; a refused call stores nothing.
+// A call on a table of clocks, by value: what the table refuses, and the event on the clock that is copied out of it. The caller stores the
+// clock back where the event was accepted. `heukelvos_event_at` does so in a table that is lent.
 ghost use mathlib.Core.Path.{_≡_};
 ghost use Rattle.event.specs.Event.{stepOf};
-ghost use Rattle.rig.specs.Rig.{answerAt, bareAnswer, mostClocks, parted, tableAt, tableRefusal};
+ghost use Rattle.rig.specs.Rig.{bareAnswer, mostClocks, parted, tableRefusal};
 use clock::Clock;
 use clock::Reading;
 use event::Event;
@@ -31,9 +31,10 @@ pub struct Answer {
     pub reading: Reading,
 }
 
-struct Parted {
-    answer: Answer,
-    clock: Clock,
+// An answer, and the clock that goes back to its place.
+pub struct Parted {
+    pub answer: Answer,
+    pub clock: Clock,
 }
 
 // An answer that has nothing but its refusal: of a call that is refused; or 0, of one that is not refused so far.
@@ -59,15 +60,17 @@ fn table_refusal(clocks: usize, place: usize) -> u8
     if clocks <= place { 18 } else { 0 }
 }
 
-// It takes no reference, so that of the two steps of `event_at` only the table is left to a proof by hand.
-fn table_answer(clocks: usize, place: usize) -> Answer
+// What a table of so many clocks answers to an event at a place before any of them is looked at: refusal 19, 18, or 0 where the event goes to
+// the clock there.
+pub fn table_answer(clocks: usize, place: usize) -> Answer
     ensures { λ r. ⌜ r ≡ bareAnswer (tableRefusal clocks place) ⌝ }
 {
     bare_answer(table_refusal(clocks, place))
 }
 
-// An event by value, its answer apart from the clock; it takes no reference, for the same reason.
-fn parted_step(c: Clock, e: Event) -> Parted
+// The event on the clock at the place, its answer apart from the clock, which is the one to store: where the event is refused, the one that
+// was there.
+pub fn event_on(c: Clock, e: Event) -> Parted
     ensures { λ r. ⌜ r ≡ parted (stepOf c e) ⌝ }
 {
     let r = step(c, e);
@@ -82,20 +85,4 @@ fn parted_step(c: Clock, e: Event) -> Parted
         },
         clock: next,
     }
-}
-
-// An event on the clock at a place of the table: 19, then 18, before any clock is looked at; then what the event answers on that clock.
-pub fn event_at(table: &mut [Clock], place: usize, e: Event) -> Answer
-    ensures { λ r. ⌜ (r ≡ answerAt (now (table .entry)) place e) × (now (table .exit) ≡ tableAt (now (table .entry)) place e) ⌝ }
-{
-    let judged = table_answer(table.len(), place);
-    if judged.refusal != 0 {
-        return judged;
-    }
-    let done = parted_step(table[place], e);
-    if done.answer.refusal != 0 {
-        return done.answer;
-    }
-    table[place] = done.clock;
-    done.answer
 }

@@ -30,7 +30,7 @@ pub record RigCall : Type 0 where
   pub event : Event
 
 -- What it is answered, and the table that it leaves. As the bounds of a clock, those of a rig are stated of whatever answers; by the rules
--- that is `theRig`, which `rig::event_at` promises to be.
+-- that is `theRig`, which `heukelvos_event_at` promises to be.
 abbrev pub rigAnswer : Rig → RigCall → Answer
 rigAnswer rig k = rig .answer (k .table) (k .place) (k .event)
 

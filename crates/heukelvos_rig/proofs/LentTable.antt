@@ -1,4 +1,4 @@
--- The ends that a function shares with every other that is lent a table of clocks. It has the table for its first parameter; the others, ss,
+-- The ends of a function that is lent a table of clocks. It has the table for its first parameter; the others, ss,
 -- and the answer, Q, are values. At an end the table is given up: only what it then holds is left.
 use mathlib.Core.Path.{_≡_}
 use mathlib.Core.List.{List, [], _∷_}
@@ -48,11 +48,6 @@ module _ {M : Type 1} {𝓤 : URA M} {H : Heap 𝓤} {A : Atoms 𝓤} {K : Type 
   given-up t κ γ n b o zs = step (λ s.
       use1 W (‵ (fres γ (codedHoleys T.the-row .code (heres T.the-row zs)))) (W .names .obs-res γ (codedHoleys T.the-row .code (heres T.the-row zs))) $
       use1 W (‵ (finally T.the-row γ zs)) (res-finally 𝓤 H A W (named 0) κ T.the-row γ zs) $ move t (1 ∷ 0 ∷ []) $ drop t $ s)
-
-  -- the same, where it was never opened
-  pub given-up-whole : K → (κ : Lft) (γ : GName) (b o : ℕ) (zs : List Clock) (vs : List Val)
-      → Step K W (‵ (finally T.the-row γ zs) ∷ Γ) G (‵ (MutSlice (named 0) κ T.the-row .own (record { ptr = (b, o); name = γ; now = zs }) vs) ∷ Γ) G
-  given-up-whole t κ γ b o zs vs = step (λ s. fsplit t $ drop t $ fsplit t $ given-up t κ γ (length zs) b o zs $ s)
 
 module _ {M : Type 1} (𝓤 : URA M) (H : Heap 𝓤) (A : Atoms 𝓤) (W : Given 𝓤 H A) where
   module _ (ss : List (Slot 1)) (ks : Kepts ss) (Q : RattleType) where
