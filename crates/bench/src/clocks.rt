@@ -35,7 +35,8 @@ fn mix_caught_up(sum: u64, r: CaughtUp) -> u64 {
     mix(mix(s, r.tick_refusal as u64), r.clock.micros.0 as u64)
 }
 
-// Calls of `ceiling` ticks each. Of a second and of many alike, since what is called at two places of a program is kept apart from both.
+// Calls of `ceiling` ticks each. Of a second and of many alike, since what is called at two places of a
+// program is kept apart from both.
 pub(crate) fn catch_ups(values: &[u64; 64], kind: u8, ceiling: u64, count: u64) -> u64 {
     let mut c = begun(values, kind);
     let mut sum: u64 = 0;
@@ -70,7 +71,8 @@ fn mix_outcome(sum: u64, o: Outcome) -> u64 {
     mix(mix(sum, o.refusal as u64), o.clock.status as u64)
 }
 
-// The same clock 64 rollovers later: so no offset comes too soon, and the interval that a request takes moves. It stays below 1,024.
+// The same clock 64 rollovers later: so no offset comes too soon, and the interval that a request takes
+// moves. It stays below 1,024.
 fn later(c: Clock) -> Clock {
     Clock {
         seconds: ((c.seconds as u64 + 64) % 4294967296) as u32,

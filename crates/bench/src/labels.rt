@@ -20,7 +20,8 @@ fn later(c: Clock) -> Clock {
     }
 }
 
-// Of each label two bytes are taken, at places that change with i and meet all twenty: so all must have been written.
+// Of each label two bytes are taken, at places that change with i and meet all twenty: so all must have been
+// written.
 pub(crate) fn writes(count: u64) -> u64 {
     let mut c = fresh(KIND_256).clock;
     let mut text = [0u8; 20];

@@ -1,5 +1,6 @@
-// Repeats an operation as often as a line of standard input says, as `tick 1000000`, and prints a checksum that depends on every result:
-// one for each line. `bench/run` compares the cost of each with that of the same operation in C.
+// Repeats an operation as often as a line of standard input says, as `tick 1000000`, and prints a checksum
+// that depends on every result: one for each line. `bench/run` compares the cost of each with that of the
+// same operation in C.
 mod clocks;
 mod labels;
 mod numbers;
@@ -77,7 +78,8 @@ fn above_ascii(line: &[u8]) -> u8 {
     line[0] / 128
 }
 
-// The kind of the device that a word of ticks is about: of both kinds they are called at one place, so that a kind is not known there.
+// The kind of the device that a word of ticks is about: of both kinds they are called at one place, so that a
+// kind is not known there.
 fn kind_of(line: &[u8]) -> u8 {
     if starts_with(line, b"tick-1024 ")
         | starts_with(line, b"second-1024 ")
@@ -88,7 +90,8 @@ fn kind_of(line: &[u8]) -> u8 {
     KIND_256
 }
 
-// How many ticks the calls of a word make: a second's, or the most that a catch-up may be asked for; 0 if they make none.
+// How many ticks the calls of a word make: a second's, or the most that a catch-up may be asked for; 0 if
+// they make none.
 fn ceiling_of(line: &[u8]) -> u64 {
     if starts_with(line, b"second ") {
         return 256;

@@ -47,7 +47,8 @@ fn mix_saved(sum: u64, s: Saved) -> u64 {
     mix(mix(sum, s.refusal as u64), s.length as u64)
 }
 
-// Of each record two bytes are taken, at places that change with i and meet all of them: so all must have been written.
+// Of each record two bytes are taken, at places that change with i and meet all of them: so all must have
+// been written.
 pub(crate) fn writes(values: &[u64; 64], count: u64) -> u64 {
     let all = clocks(values);
     let mut buf = [0u8; 46];

@@ -1,4 +1,5 @@
-// What the operations work on, taken from memory as the program runs: so the compiler cannot know what is in range.
+// What the operations work on, taken from memory as the program runs: so the compiler cannot know what is in
+// range.
 ghost use Prim.Native.Nat.{_<_};
 use clock::Clock;
 use clock::Frequency;
@@ -7,7 +8,8 @@ use clock::OffsetUnits;
 use clock::PhaseParts;
 use clock::PhaseUnits;
 
-// The numbers from `first`, which is 0, on: it is taken from the input, so that the compiler cannot work them out.
+// The numbers from `first`, which is 0, on: it is taken from the input, so that the compiler cannot work them
+// out.
 pub(crate) fn numbers(first: u8) -> [u64; 64] {
     let mut values = [0u64; 64];
     let mut i: usize = 0;
@@ -37,8 +39,8 @@ fn difference(a: u32, b: u32) -> i32 {
     (a % 64) as i32 - (b % 64) as i32
 }
 
-// A clock of a kind with work to do: an offset of 1,000 us to pay off, a frequency that leaves a remainder at both kinds, and time constant 2.
-// Its adjustment lies in the ranges of both kinds.
+// A clock of a kind with work to do: an offset of 1,000 us to pay off, a frequency that leaves a remainder at
+// both kinds, and time constant 2. Its adjustment lies in the ranges of both kinds.
 pub(crate) fn begun(values: &[u64; 64], kind: u8) -> Clock {
     let micros = Micros(small(values, 0));
     let phase = PhaseUnits(small(values, 0) as i32);

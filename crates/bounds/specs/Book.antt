@@ -23,8 +23,8 @@ use Rattle.bounds.specs.Measure.{Measure, measureOf, perFrequency, perSh
 pub record Book : Type 0 where
   -- exact time (units of the measure: 2^-32 us, or 2^-34 us)
   pub exact : ℤ
-  -- accepted ticks since the last accepted setting or the start, as `TicksOfTheBook` says; since document 02's
-  -- "whatever n is" no bound takes it
+  -- accepted ticks since the last accepted setting or the start, as `TicksOfTheBook` says; since document
+  -- 02's "whatever n is" no bound takes it
   pub n : ℕ
   -- "The frequency and share in force are those from which the adjustment was last worked out, at a rollover
   -- or setting": frequency in force (frequency units, 2^-24 us per second)

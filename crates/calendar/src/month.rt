@@ -1,11 +1,13 @@
 // Months of the calendar: the one into which a day falls, the day with which one begins, and how long one is.
-// These three stand between the calendar and whatever finds a month: here closed forms, without a loop or a table.
+// These three stand between the calendar and whatever finds a month: here closed forms, without a loop or a
+// table.
 ghost use mathlib.Core.Path.{_≡_};
 ghost use Prim.Native.Nat.{_≤_, _<_};
 ghost use Rattle.calendar.specs.Calendar.{dateOf, monthDays, days, firstYear};
 ghost use Rattle.calendar.specs.Inner.{FallsIn, firstDay, lastYear};
 
-// Years are counted from 1 March 1968, so that a leap day ends its year, and a year's months are 3 (March) to 14 (February).
+// Years are counted from 1 March 1968, so that a leap day ends its year, and a year's months are 3 (March) to
+// 14 (February).
 const BASE_YEAR: u32 = 1968;
 
 // 1 January 1970, counted in days from there.
@@ -17,8 +19,8 @@ const FOUR_YEARS: u32 = 1461;
 // Fractions are counted in 65,536ths: their quotients are shifts.
 const WHOLE: u32 = 65536;
 
-// 2100 is taken for a leap year at first: the days from 1 March 2100, day 47,541, on are then one further. With this added, a day's
-// number makes a whole from that day on.
+// 2100 is taken for a leap year at first: the days from 1 March 2100, day 47,541, on are then one further.
+// With this added, a day's number makes a whole from that day on.
 const TO_MARCH_2100: u32 = WHOLE - 47541;
 
 // The same for days that are counted from 1 March 1968, a 29 February 2100 among them.
@@ -41,7 +43,8 @@ pub(crate) fn month_of(day: u32) -> Month
     let quarters = 4 * j + 3;
     let y = quarters / FOUR_YEARS;
     let of_year = quarters % FOUR_YEARS / 4;
-    // A month has 65,536 / 2,141 = 30.61 days on average, from March to January: the remainder is the day of the month.
+    // A month has 65,536 / 2,141 = 30.61 days on average, from March to January: the remainder is the day of
+    // the month.
     let parts = 2141 * of_year + 197913;
     let m = parts / WHOLE;
     let of_month = parts % WHOLE / 2141;

@@ -1,4 +1,5 @@
--- A jump goes on by single ticks: what a tick makes of the clock after a jump of j ticks, a jump of j + 1 makes of the clock as it was.
+-- A jump goes on by single ticks: what a tick makes of the clock after a jump of j ticks, a jump of j + 1
+-- makes of the clock as it was.
 use mathlib.Core.Path.{_≡_, sym, _∙_, ap}
 use Prim.Native.Nat.{ℕ, suc, _+_, _-_, _*_, _≤_, _<_}
 use native.Mathlib.Nat.{mul-le-mul-left, mul-le-mul-right, mod-eq-of-lt}

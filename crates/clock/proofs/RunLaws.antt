@@ -142,7 +142,8 @@ module _ (n j m : ℕ) (c : Clock) (t : inRange c ≡ true) (e : j + suc m ≡ n
         run = λ stop. split stop ∙ ap (adds j) (run-refused here m stop h) ∙ simp (ne-eqb (tickOf here .refusal) 0 h, refused-kept here h);
       }
 
--- The same of what the code computes, at a number of ticks j that counts the last: a is where they lead to, b where those before the last lead to.
+-- The same of what the code computes, at a number of ticks j that counts the last: a is where they lead to, b
+-- where those before the last lead to.
 module _ (n j : ℕ) (c : Clock) (t : inRange c ≡ true) (some : 0 < j) (most : j ≤ n) (w : Within (j - 1) c) where
   counted : suc (j - 1) ≡ j
   counted = omega (arith, some)

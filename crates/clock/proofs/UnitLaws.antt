@@ -1,5 +1,5 @@
--- The unit that the leftover reaches at a tick. Leftover and remainder together are less than two units, so that it is a quotient; at most one goes
--- into the phase, and what it leaves is less than a unit again.
+-- The unit that the leftover reaches at a tick. Leftover and remainder together are less than two units, so
+-- that it is a quotient; at most one goes into the phase, and what it leaves is less than a unit again.
 use mathlib.Core.Path.{_≡_, refl, _∙_, ap}
 use mathlib.Core.Bool.{Bool, true, false}
 use Prim.Native.Nat.{ℕ, _+_, _-_, _*_, _/_, _≤_, _<_}

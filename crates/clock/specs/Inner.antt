@@ -47,9 +47,10 @@ movedTo c a = moved c (a .micros) (a .phase) (a .leftover)
 abbrev pub lessASecond : Advance → Advance
 lessASecond a = record { micros = micros (a .micros .0 - microsPerSecond); phase = a .phase; leftover = a .leftover }
 
--- Microseconds, phase and leftover of a clock j ticks later, in one step: between rollovers adjustment and remainder are constant, so that j
--- ticks add j remainders to the leftover, whose whole units one division carries into the phase; they add j adjustments to the phase, and one
--- division carries the whole microseconds in it.
+-- Microseconds, phase and leftover of a clock j ticks later, in one step: between rollovers adjustment and
+-- remainder are constant, so that j ticks add j remainders to the leftover, whose whole units one division
+-- carries into the phase; they add j adjustments to the phase, and one division carries the whole
+-- microseconds in it.
 
 -- the leftover with j remainders (parts of a phase unit)
 abbrev pub leftoverSums : ℕ → Clock → ℤ
@@ -86,7 +87,8 @@ abbrev pub jumpOf : ℕ → Clock → Advance
 jumpOf j c =
     record { micros = micros (microsLater j c); phase = phaseUnits (phaseLater j c); leftover = phaseParts (leftoverLater j c) }
 
--- none of j ticks, of the longest, reaches the end of the second; the phase adds less than a microsecond to them
+-- none of j ticks, of the longest, reaches the end of the second; the phase adds less than a microsecond to
+-- them
 abbrev pub Within : ℕ → Clock → Type 0
 Within j c = phaseUnitsPerMicro * c .micros .0 + longestTick (deviceOf (c .kind)) * j ≤ phaseUnitsPerMicro * lastMicro
 
@@ -103,7 +105,8 @@ turnWithin c a count refusal =
 abbrev pub endsWith : Bool → Turn → Bool
 endsWith stop t = not (eqb (t .refusal) 0) || (stop && t .rolled)
 
--- t is a turn of a run of up to n ticks of c: its first ticks, none after one that rolls over, and the tick that is refused, if one is.
+-- t is a turn of a run of up to n ticks of c: its first ticks, none after one that rolls over, and the tick
+-- that is refused, if one is.
 pub record TurnOf (n : ℕ) (c : Clock) (t : Turn) : Type 0 where
   pub inside : inRange (t .clock) ≡ true
   pub most : t .count ≤ n

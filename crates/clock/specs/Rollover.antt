@@ -1,4 +1,5 @@
--- "Rollover, in this order." Document 02 adds the interval since the earlier update, and the remainder of the frequency.
+-- "Rollover, in this order." Document 02 adds the interval since the earlier update, and the remainder of the
+-- frequency.
 use Prim.Native.Nat.{ℕ, _+_, _-_, _%_, _^_, min}
 use mathlib.Core.Bool.{Bool, _&&_, cond}
 use lib.Dec.{eqb}
@@ -31,8 +32,9 @@ share c = quotZ (c .offset .0) (pos (shareDivisor (c .constant)))
 abbrev pub offsetLeft : Clock → ℤ
 offsetLeft c = c .offset .0 -ℤ share c
 
--- document 02: "The dividing step must now hand back quotient and remainder, the remainder with the dividend's sign": frequency / 16, of the second
--- device frequency / 64 (phase units a tick, and parts of one). The share's and the gain's quotients drop what they leave
+-- document 02: "The dividing step must now hand back quotient and remainder, the remainder with the
+-- dividend's sign": frequency / 16, of the second device frequency / 64 (phase units a tick, and parts of
+-- one). The share's and the gain's quotients drop what they leave
 abbrev pub division : Device → ℤ → Divided
 division d f =
     record {
@@ -40,13 +42,13 @@ division d f =
       remainder = phaseParts (remZ f (pos (d .divisor)));
     }
 
--- "Adjustment = 64 x share + frequency / 16 + 67,108,864"; of the second device "16 x share + frequency / 64 + 150,994,944" (phase
--- units); of a share and a frequency
+-- "Adjustment = 64 x share + frequency / 16 + 67,108,864"; of the second device "16 x share + frequency / 64
+-- + 150,994,944" (phase units); of a share and a frequency
 abbrev pub adjustmentFor : Device → ℤ → ℤ → ℤ
 adjustmentFor d s f = pos (d .scale) *ℤ s +ℤ division d f .quotient .0 +ℤ d .base .0
 
--- document 02: "Keep instead the number of rollovers since the last accepted offset, at most 1,024": a rollover is one more, whatever its
--- leap step; where there is no earlier update there is nothing to count
+-- document 02: "Keep instead the number of rollovers since the last accepted offset, at most 1,024": a
+-- rollover is one more, whatever its leap step; where there is no earlier update there is nothing to count
 abbrev pub intervalGrown : ℕ → ℕ → ℕ
 intervalGrown flag n = cond (eqb flag 1) (min (n + 1) longestInterval) n
 

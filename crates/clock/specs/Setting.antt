@@ -12,9 +12,10 @@ use Rattle.state.specs.declared.units.AskedMicros.{AskedMicros}
 use Rattle.state.specs.declared.outcome.Outcome.{Outcome}
 use Rattle.clock.specs.Rollover.{division, adjustmentFor}
 
--- "Both replaced; phase and offset left 0; no earlier update; adjustment as at a rollover with share 0; both errors 16,000,000;
--- status BAD. Frequency and time constant stay." Document 02: the "device kind, 0 or 1, which a setting keeps"; "A setting clears the leftover and
--- works the remainder out from the frequency kept."
+-- "Both replaced; phase and offset left 0; no earlier update; adjustment as at a rollover with share 0; both
+-- errors 16,000,000; status BAD. Frequency and time constant stay." Document 02: the "device kind, 0 or 1,
+-- which a setting keeps"; "A setting clears the leftover and works the remainder out from the frequency
+-- kept."
 abbrev pub setTo : Clock → ℕ → AskedMicros → Clock
 setTo c s u =
     whole

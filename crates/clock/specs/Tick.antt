@@ -1,5 +1,6 @@
--- "Tick." Document 02 adds the leftover: "The clock keeps the remainder in force and a leftover; each tick adds the one to the other, and when the
--- leftover reaches a whole phase unit, up or down, that unit goes into the phase before c is taken."
+-- "Tick." Document 02 adds the leftover: "The clock keeps the remainder in force and a leftover; each tick
+-- adds the one to the other, and when the leftover reaches a whole phase unit, up or down, that unit goes
+-- into the phase before c is taken."
 use Prim.Native.Nat.{ℕ, _+_, _-_}
 use mathlib.Core.Bool.{Bool, _&&_, not, cond}
 use lib.Dec.{leb, eqb}
@@ -20,7 +21,8 @@ use Rattle.clock.specs.Rollover.{rolledOver}
 abbrev pub leftoverSum : Clock → ℤ
 leftoverSum c = c .leftover .0 +ℤ c .remainder .0
 
--- "A unit is 16 parts (64 for kind 1)": the whole unit that so many parts have reached, up or down, or none (phase units)
+-- "A unit is 16 parts (64 for kind 1)": the whole unit that so many parts have reached, up or down, or none
+-- (phase units)
 unfoldable pub unitIn : ℕ → ℤ → ℤ
 unitIn parts z = cond (leZ (pos parts) z) (pos 1) (cond (leZ z (negℤ (pos parts))) (negℤ (pos 1)) (pos 0))
 
@@ -44,7 +46,8 @@ carry c = quotZ (phaseSum c) (pos phaseUnitsPerMicro)
 abbrev pub phaseLeft : Clock → ℤ
 phaseLeft c = phaseSum c -ℤ carry c *ℤ pos phaseUnitsPerMicro
 
--- "microseconds grow by 3,906 + c" (us); "A second device has ticks of 976 us". Of a clock in range the sum is not negative
+-- "microseconds grow by 3,906 + c" (us); "A second device has ticks of 976 us". Of a clock in range the sum
+-- is not negative
 abbrev pub microsGrown : Clock → ℕ
 microsGrown c = natAbs (pos (c .micros .0 + deviceOf (c .kind) .tick .0) +ℤ carry c)
 
@@ -52,7 +55,8 @@ microsGrown c = natAbs (pos (c .micros .0 + deviceOf (c .kind) .tick .0) +ℤ ca
 abbrev pub rollsOver : Clock → Bool
 rollsOver c = leb microsPerSecond (microsGrown c)
 
--- the clock with other microseconds, another phase and another leftover: all that a tick moves before a rollover
+-- the clock with other microseconds, another phase and another leftover: all that a tick moves before a
+-- rollover
 abbrev pub moved : Clock → Micros → PhaseUnits → PhaseParts → Clock
 moved c us phase leftover =
     whole

@@ -1,5 +1,5 @@
--- Many ticks in one call: of `0 n` of a history (document 01, "Replay program"), and of a recorder that catches up after a sleep
--- (document 02, Req 01). Both are one run of single ticks.
+-- Many ticks in one call: of `0 n` of a history (document 01, "Replay program"), and of a recorder that
+-- catches up after a sleep (document 02, Req 01). Both are one run of single ticks.
 use mathlib.Core.Bool.{Bool, false, _&&_, cond, not}
 use Prim.Native.Nat.{ℕ, zero, suc}
 use lib.Dec.{eqb, ltb}
@@ -18,9 +18,10 @@ ended k c = record { refusal = 0; count = 0; «tick_refusal» = k; clock = c }
 abbrev pub oneMore : CaughtUp → CaughtUp
 oneMore r = record { refusal = r .refusal; count = suc (r .count); «tick_refusal» = r .«tick_refusal»; clock = r .clock }
 
--- "It answers how many ticks were accepted, and state and count equal those of ticking one by one until ceiling, rollover or first
--- refusal. A tick's refusal 3 is answered beside the count, the accepted ticks stand". Up to n single ticks of c; where `stop`, none
--- after a tick that rolls the second over. The ceiling is looked at before the tick.
+-- "It answers how many ticks were accepted, and state and count equal those of ticking one by one until
+-- ceiling, rollover or first refusal. A tick's refusal 3 is answered beside the count, the accepted ticks
+-- stand". Up to n single ticks of c; where `stop`, none after a tick that rolls the second over. The ceiling
+-- is looked at before the tick.
 unfoldable pub ranOf : (stop : Bool) → ℕ → Clock → CaughtUp
 ranOf stop zero c = ended 0 c
 ranOf stop (suc n) c =
@@ -41,13 +42,15 @@ catchUpRefusal c ceiling =
 abbrev pub refusedCatchUp : ℕ → Clock → CaughtUp
 refusedCatchUp k c = record { refusal = k; count = 0; «tick_refusal» = 0; clock = c }
 
--- What a catch-up answers; "the call itself is not refused" by a tick that is. "Ceiling 0 is accepted and does nothing".
+-- What a catch-up answers; "the call itself is not refused" by a tick that is. "Ceiling 0 is accepted and
+-- does nothing".
 unfoldable pub catchUpOf : Clock → ℕ → Bool → CaughtUp
 catchUpOf c ceiling stop =
     cond (eqb (catchUpRefusal c ceiling) 0) (ranOf stop ceiling c) (refusedCatchUp (catchUpRefusal c ceiling) c)
 
--- "`0 n` up to n single ticks, stopping at the first refusal, the accepted ones standing": the refusal of the first tick that is refused,
--- or 0, and the clock after those before it. Of no tick: 1 "a state field lies outside its range" all the same.
+-- "`0 n` up to n single ticks, stopping at the first refusal, the accepted ones standing": the refusal of the
+-- first tick that is refused, or 0, and the clock after those before it. Of no tick: 1 "a state field lies
+-- outside its range" all the same.
 unfoldable pub ticksOf : ℕ → Clock → Outcome
 ticksOf n c =
     cond (inRange c)

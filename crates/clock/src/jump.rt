@@ -18,7 +18,8 @@ use state::PhaseParts;
 use state::PhaseUnits;
 use state::device_constants;
 
-// The longest ticks that go into a microsecond, of some 3,907.13 and 976.78 us (2^-32 ticks, rounded down): to divide by a product.
+// The longest ticks that go into a microsecond, of some 3,907.13 and 976.78 us (2^-32 ticks, rounded down):
+// to divide by a product.
 const PER_MICRO_256: u64 = 1099264;
 
 const PER_MICRO_1024: u64 = 4397057;
@@ -34,7 +35,8 @@ fn per_micro(kind: u8) -> u64
     }
 }
 
-// How many ticks go in one step: at most `most`, and none but the last can reach the end of the second. Any such number would do.
+// How many ticks go in one step: at most `most`, and none but the last can reach the end of the second. Any
+// such number would do.
 pub(crate) fn jump_length(c: Clock, most: u64) -> u64
     requires { ⌜ inRange c ≡ true ⌝ }
     requires { ⌜ 0 < most ⌝ }
@@ -58,7 +60,8 @@ fn reached_after(c: Clock, j: u64) -> Reached
     }
 }
 
-// The microseconds, the phase and the leftover j ticks later, where none but the last can reach the end of the second.
+// The microseconds, the phase and the leftover j ticks later, where none but the last can reach the end of
+// the second.
 pub(crate) fn jump(c: Clock, j: u64) -> Advance
     requires { ⌜ inRange c ≡ true ⌝ }
     requires { ⌜ Within (j - 1) c ⌝ }

@@ -1,4 +1,5 @@
-// A run of ticks, by turns: each goes in one step as far as the second is sure to last, and by the tick after it.
+// A run of ticks, by turns: each goes in one step as far as the second is sure to last, and by the tick after
+// it.
 ghost use mathlib.Core.Path.{_≡_};
 ghost use mathlib.Core.Bool.{true};
 ghost use Prim.Native.Nat.{ℕ, _-_, _≤_, _<_};
@@ -16,8 +17,9 @@ use state::LAST_SECOND;
 use state::MICROS_PER_SECOND;
 use state::REFUSED_LAST;
 
-// The answer of many ticks: refusal 0 where the call was accepted, else its number in the table of refusals; how many ticks were
-// accepted; the refusal of the tick that ended them, or 0; and the clock after the accepted ones.
+// The answer of many ticks: refusal 0 where the call was accepted, else its number in the table of refusals;
+// how many ticks were accepted; the refusal of the tick that ended them, or 0; and the clock after the
+// accepted ones.
 #[repr(C)]
 pub struct CaughtUp {
     pub refusal: u8,
@@ -26,7 +28,8 @@ pub struct CaughtUp {
     pub clock: Clock,
 }
 
-// Some ticks of a run: the refusal of the one that ended them, or 0; whether the last rolled the second over; how many were accepted.
+// Some ticks of a run: the refusal of the one that ended them, or 0; whether the last rolled the second over;
+// how many were accepted.
 struct Turn {
     refusal: u8,
     rolled: bool,
@@ -46,7 +49,8 @@ fn turn_within(c: Clock, a: Advance, count: u64, refusal: u8) -> Turn
     }
 }
 
-// The turn of j ticks to `a`, in the last second of all: where the last of them would roll over, it is refused.
+// The turn of j ticks to `a`, in the last second of all: where the last of them would roll over, it is
+// refused.
 fn last_turn(c: Clock, a: Advance, j: u64) -> Turn
     requires { ⌜ inRange c ≡ true ⌝ }
     requires { ⌜ c .seconds ≡ lastSecond ⌝ }
@@ -60,8 +64,8 @@ fn last_turn(c: Clock, a: Advance, j: u64) -> Turn
     turn_within(c, jump(c, j - 1), j - 1, REFUSED_LAST)
 }
 
-// The first of up to `most` ticks, none after one that rolls over. The last second is seen before the ticks are made: the clock as it was need not
-// be kept beyond them, which would take an instruction in ten more.
+// The first of up to `most` ticks, none after one that rolls over. The last second is seen before the ticks
+// are made: the clock as it was need not be kept beyond them, which would take an instruction in ten more.
 fn take_turn(c: Clock, most: u64) -> Turn
     requires { ⌜ inRange c ≡ true ⌝ }
     requires { ⌜ 0 < most ⌝ }

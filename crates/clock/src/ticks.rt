@@ -24,8 +24,9 @@ fn refused(c: Clock, refusal: u8) -> CaughtUp
     }
 }
 
-// Up to `ceiling` ticks, to the first that is refused; where `stop`, to the tick that rolls the second over. That no more are accepted follows
-// from the definition, and is promised for a caller who counts down what is left.
+// Up to `ceiling` ticks, to the first that is refused; where `stop`, to the tick that rolls the second over.
+// That no more are accepted follows from the definition, and is promised for a caller who counts down what is
+// left.
 pub fn catch_up(c: Clock, ceiling: u64, stop: bool) -> CaughtUp
     ensures { λ r. ⌜ r ≡ catchUpOf c ceiling stop ⌝ }
     ensures { λ r. ⌜ r .count ≤ ceiling ⌝ }
@@ -40,8 +41,8 @@ pub fn catch_up(c: Clock, ceiling: u64, stop: bool) -> CaughtUp
     run(c, ceiling, stop)
 }
 
-// Up to n single ticks. The answer of the first that is refused, with the clock that the accepted ones led to; or refusal 0. A clock out
-// of range is refused even where n is 0.
+// Up to n single ticks. The answer of the first that is refused, with the clock that the accepted ones led
+// to; or refusal 0. A clock out of range is refused even where n is 0.
 pub fn run_ticks(c: Clock, n: u64) -> Outcome
     ensures { λ r. ⌜ r ≡ ticksOf n c ⌝ }
 {

@@ -25,7 +25,8 @@ pub(crate) struct Reached {
     pub(crate) leftover: PhaseParts,
 }
 
-// Those of one tick, which reaches one unit at most: two comparisons, where a division would take longer than all the rest of a tick.
+// Those of one tick, which reaches one unit at most: two comparisons, where a division would take longer than
+// all the rest of a tick.
 fn reached_of(c: Clock) -> Reached
     requires { ⌜ inRange c ≡ true ⌝ }
     ensures { λ r. ⌜ r ≡ reachedOf c ⌝ }

@@ -22,9 +22,9 @@ use crate::signed::minus;
 use crate::signed::pick;
 use crate::signed::plus;
 
-// The refusal that the second implementation gave, and whether the first gave the same answer; of a list, how many offsets it accepted on a
-// clock with an earlier update: neither the first of the list, nor the first after a setting; of a clock at an edge, 1 where whole units that
-// add up decide its answer, up or down.
+// The refusal that the second implementation gave, and whether the first gave the same answer; of a list, how
+// many offsets it accepted on a clock with an earlier update: neither the first of the list, nor the first
+// after a setting; of a clock at an edge, 1 where whole units that add up decide its answer, up or down.
 pub(crate) struct Verdict {
     pub(crate) refusal: u64,
     pub(crate) same: bool,
@@ -58,14 +58,16 @@ pub(crate) fn event_on_any(case: u64, code: u64) -> Verdict {
     compared(state(case), &row(case, code))
 }
 
-// A catch-up, on a clock that need not be sound: once in four early in its second, nearly all its ticks from the end.
+// A catch-up, on a clock that need not be sound: once in four early in its second, nearly all its ticks from
+// the end.
 pub(crate) fn catch_up(case: u64) -> Verdict {
     let mut s = state(case);
     s.micros = pick(draw(case, 84) % 4 == 0, s.micros % 4096, s.micros);
     compared(s, &row(case, 4))
 }
 
-// A catch-up of as many ticks as may be, past every rollover: half of them from less than 300 seconds before the last, of kind 1 less than 75.
+// A catch-up of as many ticks as may be, past every rollover: half of them from less than 300 seconds before
+// the last, of kind 1 less than 75.
 pub(crate) fn long_catch_up(case: u64) -> Verdict {
     let mut s = state(case);
     let v = draw(case, 85);
@@ -74,7 +76,8 @@ pub(crate) fn long_catch_up(case: u64) -> Verdict {
     compared(s, &catch_up_row(minus(65536, v / 1024 % 2), 0))
 }
 
-// Whether the microseconds that an event of ticks comes to, or its refusal, would be others had no part been added.
+// Whether the microseconds that an event of ticks comes to, or its refusal, would be others had no part been
+// added.
 fn unit_decides(s: State, row: &[u64; ROW]) -> bool {
     let mut without = s;
     without.remainder = 0;
@@ -119,14 +122,15 @@ pub(crate) fn start(case: u64) -> Verdict {
     verdict_of(a.refusal, same_start(kind, a))
 }
 
-// The ticks after which 62 to 66 rollovers lie behind the clock's last offset, or about as many: the next one is accepted from 64 on. Of kind 1
-// one call makes about 64 of them at most.
+// The ticks after which 62 to 66 rollovers lie behind the clock's last offset, or about as many: the next one
+// is accepted from 64 on. Of kind 1 one call makes about 64 of them at most.
 fn about_64(s: State, v: u64) -> [u64; ROW] {
     let wanted = minus(62 + v % 5, s.since);
     catch_up_row(least(times(wanted, rate(s.kind)), 65536), 0)
 }
 
-// An event of a list, on the clock that it meets. Three in four of the catch-ups lead to where the next offset is accepted, or just not.
+// An event of a list, on the clock that it meets. Three in four of the catch-ups lead to where the next
+// offset is accepted, or just not.
 fn some_event(case: u64, s: State) -> [u64; ROW] {
     let code = some_code(case);
     let v = draw(case, 89);
@@ -142,7 +146,8 @@ fn offset_again(s: State, row: &[u64; ROW], m: Many) -> u64 {
     pick(offset & (s.flag == 1) & (m.refusal == 0), 1, 0)
 }
 
-// A list of 5,000 events from a fresh clock, of one kind and the other in turn. Its refusal is the last one that an event gave.
+// A list of 5,000 events from a fresh clock, of one kind and the other in turn. Its refusal is the last one
+// that an event gave.
 pub(crate) fn list(case: u64) -> Verdict {
     let a = begin(case % 2);
     let mut s = a.state;

@@ -1,5 +1,6 @@
-// Document 01's UTC label and its lines, a second time: days are counted off year by year and month by month, a date and time is one number
-// of fourteen digits, and a text is a pattern whose zeros are replaced by digits from the last to the first.
+// Document 01's UTC label and its lines, a second time: days are counted off year by year and month by month,
+// a date and time is one number of fourteen digits, and a text is a pattern whose zeros are replaced by
+// digits from the last to the first.
 use crate::form::stands;
 use crate::rules::State;
 use crate::signed::minus;
@@ -150,7 +151,8 @@ fn days_in_year(month: u64) -> u64 {
     }
 }
 
-// The days before the first of a month, given as six digits of any value: 2100 is the one fourth year that is no leap year.
+// The days before the first of a month, given as six digits of any value: 2100 is the one fourth year that is
+// no leap year.
 fn days_before(month: u64) -> u64 {
     let years = minus(month / 100, 1970) % 1024;
     let leaps = (years + pick(month % 100 < 3, 1, 2) % 4) / 4;

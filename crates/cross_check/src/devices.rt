@@ -1,5 +1,6 @@
-// Both recorders, a second time, from the rates of their timers: what falls to a second is divided among its ticks, in units of the phase.
-// Kind 0 is the recorder of 256 Hz, kind 1 that of 1,024 Hz. Any other number is refused before its rate matters.
+// Both recorders, a second time, from the rates of their timers: what falls to a second is divided among its
+// ticks, in units of the phase. Kind 0 is the recorder of 256 Hz, kind 1 that of 1,024 Hz. Any other number
+// is refused before its rate matters.
 ghost use Prim.Native.Nat.{_<_};
 use crate::signed::Signed;
 use crate::signed::mapped;
@@ -13,12 +14,14 @@ pub(crate) const PHASE_MICRO: u64 = 268435456;
 
 const PHASE_SECOND: u64 = 1000000 * PHASE_MICRO;
 
-// The unit of an offset, 2^-14 us, and what the unit of the frequency, 2^-24 ppm, makes in a second: in units of the phase.
+// The unit of an offset, 2^-14 us, and what the unit of the frequency, 2^-24 ppm, makes in a second: in units
+// of the phase.
 const PHASE_OFFSET: u64 = 16384;
 
 const PHASE_FREQUENCY: u64 = 16;
 
-// The largest share, a 1,024th of 127,999 us in units of an offset, and the largest frequency, 100 ppm in its own.
+// The largest share, a 1,024th of 127,999 us in units of an offset, and the largest frequency, 100 ppm in its
+// own.
 const LARGEST_SHARE: u64 = 127999 * PHASE_OFFSET / 1024;
 
 const LARGEST_FREQUENCY: u64 = 1677721600;
@@ -83,7 +86,8 @@ pub(crate) fn in_parts(kind: u64, v: Signed) -> Signed {
     }
 }
 
-// The adjustment that lies so far from that of a clock with no share and no frequency. Its number is mapped, as the distance is.
+// The adjustment that lies so far from that of a clock with no share and no frequency. Its number is mapped,
+// as the distance is.
 pub(crate) fn adjustment_at(kind: u64, distance: u64) -> u64 {
     let a = sum(beyond(kind), unmapped(distance));
     mapped(a.negative, a.size)

@@ -1,4 +1,5 @@
-// The first implementation's calls, each beside what the second answers. No other file names the first's crates.
+// The first implementation's calls, each beside what the second answers. No other file names the first's
+// crates.
 use crate::dates::Label;
 use crate::devices::adjustment_at;
 use crate::devices::end_of;
@@ -138,7 +139,8 @@ fn request_of(row: &[u64; ROW]) -> Request {
     }
 }
 
-// What the first answered beside what the second did: refusal, count, the refusal of the tick that ended a catch-up, and the clock.
+// What the first answered beside what the second did: refusal, count, the refusal of the tick that ended a
+// catch-up, and the clock.
 fn same_answer(m: Many, refusal: u8, count: u64, tick_refusal: u8, c: Clock) -> bool {
     let same = same_byte(m.refusal, refusal) & same_byte(m.tick_refusal, tick_refusal);
     same & (m.count == count) & same_clock(m.state, c)
@@ -196,7 +198,8 @@ fn same_told(a: Answer, c: Clock) -> bool {
     same & same_reading(shown(a.refusal, a.state, 3), t.reading)
 }
 
-// An event by its own call and as a step of a list, where the second has answered `m`; and the clock that it meets.
+// An event by its own call and as a step of a list, where the second has answered `m`; and the clock that it
+// meets.
 pub(crate) fn same_event(s: State, row: &[u64; ROW], m: Many) -> bool {
     let c = clock_of(s);
     same_told(reading(s), c) & same_called(m, c, row) & same_stepped(m, c, row)
@@ -228,7 +231,8 @@ fn same_bits() -> bool {
     same & (m.esterror == 8) & (m.status == 16) & (m.constant == 32)
 }
 
-// A kind's constants. An adjustment grows by `scale` for each unit of the share, and by 1 for `divisor` units of the frequency, each a part of it.
+// A kind's constants. An adjustment grows by `scale` for each unit of the share, and by 1 for `divisor` units
+// of the frequency, each a part of it.
 fn same_device(kind: u64, d: Device) -> bool {
     let mut same = same_word(rate(kind), d.rate) & same_word(whole_micros(kind), d.tick.0);
     same = same & same_word(slew(kind, 1), d.scale) & same_word(parts(kind), d.divisor);
@@ -241,8 +245,8 @@ fn same_kinds() -> bool {
     same_byte(0, clock::KIND_256) & same_byte(1, clock::KIND_1024)
 }
 
-// What a caller begins with: the limits and names, the fresh clock of a number that need not be a kind, where the second has answered `a`,
-// and the constants of the kind that this clock has.
+// What a caller begins with: the limits and names, the fresh clock of a number that need not be a kind, where
+// the second has answered `a`, and the constants of the kind that this clock has.
 pub(crate) fn same_start(kind: u64, a: Answer) -> bool {
     let o = clock::fresh(byte(kind));
     let d = clock::device_constants(byte(kind));
@@ -268,7 +272,8 @@ pub(crate) fn same_number(bytes: [u8; 64], end: usize, at: usize, mine: Number) 
     }
 }
 
-// What a writer answered: its refusal and, but for a label, the place after what it wrote; and the buffer, of which it was lent a part.
+// What a writer answered: its refusal and, but for a label, the place after what it wrote; and the buffer, of
+// which it was lent a part.
 pub(crate) struct Wrote {
     pub(crate) refusal: u64,
     pub(crate) next: usize,
@@ -370,8 +375,8 @@ pub(crate) fn same_begun(mine: Replayed) -> bool {
     same_run(mine, playback::start())
 }
 
-// One call on a run, which took the second from `before` to where `mine` stands: refused with room for no line, unless nothing is left to
-// write; else it comes past an event or to the end.
+// One call on a run, which took the second from `before` to where `mine` stands: refused with room for no
+// line, unless nothing is left to write; else it comes past an event or to the end.
 fn same_call(before: Replayed, mine: Replayed, room: usize, f: Filling) -> bool {
     let refusal = pick((room < 30) & !before.over, 14, 0);
     let moved = (before.place < mine.place) | mine.over;
@@ -380,7 +385,8 @@ fn same_call(before: Replayed, mine: Replayed, room: usize, f: Filling) -> bool 
     same & same_run(mine, f.run)
 }
 
-// Whether a lent buffer that held 9 begins with the `size` bytes of the output from `at` on, and holds 9 after them.
+// Whether a lent buffer that held 9 begins with the `size` bytes of the output from `at` on, and holds 9
+// after them.
 fn same_part(part: &[u8; 64], out: &[u8; 2048], at: usize, size: usize) -> bool {
     let mut same = true;
     let mut k: usize = 0;
@@ -395,8 +401,8 @@ fn same_part(part: &[u8; 64], out: &[u8; 2048], at: usize, size: usize) -> bool 
     same
 }
 
-// A run over a history from where `from` stands, in calls that lend `room` bytes. After each call the second goes on to the same place.
-// Its history begins with `head`.
+// A run over a history from where `from` stands, in calls that lend `room` bytes. After each call the second
+// goes on to the same place. Its history begins with `head`.
 pub(crate) fn same_replay(bytes: &[u8], head: [u8; 64], from: Replayed, room: usize) -> bool {
     let mut out = [0u8; 2048];
     let mut mine = from;

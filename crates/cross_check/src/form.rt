@@ -1,5 +1,6 @@
-// Document 01's number form, a second time: a number's end is found first, then its value is worked out from the last group to the first.
-// Rows of numbers, as records and events have them, are written and read by a mask: bit k says that number k is there.
+// Document 01's number form, a second time: a number's end is found first, then its value is worked out from
+// the last group to the first. Rows of numbers, as records and events have them, are written and read by a
+// mask: bit k says that number k is there.
 use crate::signed::minus;
 use crate::signed::pick;
 use crate::signed::plus;
@@ -63,7 +64,8 @@ pub(crate) fn read(bytes: &[u8; 64], end: usize, at: usize) -> Number {
     }
 }
 
-// Where the reading of rows stands: the place of the next number, how many numbers were passed, and the refusal, after which none is read.
+// Where the reading of rows stands: the place of the next number, how many numbers were passed, and the
+// refusal, after which none is read.
 pub(crate) struct Cursor {
     pub(crate) refusal: u64,
     pub(crate) next: usize,
@@ -132,8 +134,8 @@ fn put(bytes: &mut [u8; 64], at: usize, n: u64) -> usize {
     p
 }
 
-// Writes the numbers of the row that the mask names from `at` on, each modulo 2^35, as far as the bytes reach, and gives the place after
-// them.
+// Writes the numbers of the row that the mask names from `at` on, each modulo 2^35, as far as the bytes
+// reach, and gives the place after them.
 pub(crate) fn put_all(bytes: &mut [u8; 64], at: usize, row: &[u64; ROW], mask: u64) -> usize {
     let mut next = at;
     let mut rest = mask;
@@ -164,7 +166,8 @@ pub(crate) fn laid(row: &[u64; ROW], mask: u64, at: usize, fill: u8) -> Draft {
     }
 }
 
-// Whether a lent buffer that held `fill` now begins with the first `size` bytes of the text, and holds `fill` after them.
+// Whether a lent buffer that held `fill` now begins with the first `size` bytes of the text, and holds `fill`
+// after them.
 pub(crate) fn stands(buf: &[u8; 64], fill: u8, text: &[u8; 64], size: usize) -> bool {
     let mut same = true;
     let mut k: usize = 0;

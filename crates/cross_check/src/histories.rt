@@ -17,14 +17,16 @@ use crate::rules::State;
 use crate::rules::fresh;
 use crate::signed::pick;
 
-// Mostly up to 600 ticks, once in 8 up to 4,096, and once in 32 about 64 seconds of them, after which an offset is accepted again.
+// Mostly up to 600 ticks, once in 8 up to 4,096, and once in 32 about 64 seconds of them, after which an
+// offset is accepted again.
 fn tick_count(case: u64) -> u64 {
     let v = draw(case, 600);
     let some = pick(v % 32 == 1, 16300 + v / 32 % 200, v / 8 % 600);
     pick(v % 8 == 0, v / 8 % 4097, some)
 }
 
-// An event of a history. Small offsets and statuses alone are frequent: they lead a clock to its leap seconds.
+// An event of a history. Small offsets and statuses alone are frequent: they lead a clock to its leap
+// seconds.
 fn some_event(case: u64) -> [u64; ROW] {
     let kind = draw(case, 601) % 8;
     let v = draw(case, 601) / 8;
@@ -60,7 +62,8 @@ fn some_history(case: u64) -> Bytes {
     )
 }
 
-// The clock that a run begins with: mostly the fresh one of kind 0, which a replay begins with, else any of either kind.
+// The clock that a run begins with: mostly the fresh one of kind 0, which a replay begins with, else any of
+// either kind.
 fn some_start(case: u64, v: u64) -> State {
     match v % 8 {
         0 => crate::random::state(case),
@@ -75,8 +78,8 @@ fn run_both(bytes: [u8; 64], from: Replayed, room: usize) -> bool {
     same_replay(&bytes[..end % 65], head, from, room)
 }
 
-// A history of up to 64 bytes. Once in 16 the buffer has room for no line, and once in 16 the run has ended before, which is no
-// refusal with any buffer.
+// A history of up to 64 bytes. Once in 16 the buffer has room for no line, and once in 16 the run has ended
+// before, which is no refusal with any buffer.
 pub(crate) fn replay(case: u64) -> Verdict {
     let b = some_history(case);
     let bytes = b.bytes;

@@ -42,7 +42,8 @@ fn read_both(text: [u8; 64], size: usize) -> Verdict {
     verdict_of(mine.refusal, same_label(text, size, mine))
 }
 
-// A label's text, of a second also somewhat past the last one that a clock can hold; once in 4 of a day's last second, which reads 60.
+// A label's text, of a second also somewhat past the last one that a clock can hold; once in 4 of a day's
+// last second, which reads 60.
 fn some_label(case: u64) -> [u8; 64] {
     let v = draw(case, 410);
     let near_end = 4294967200 + v / 64 % 200000;
@@ -54,7 +55,8 @@ fn some_label(case: u64) -> [u8; 64] {
     )
 }
 
-// A label whole or with one byte changed, to the one before, the one after, a digit or any; once in 16 a part of 18 to 21 bytes.
+// A label whole or with one byte changed, to the one before, the one after, a digit or any; once in 16 a part
+// of 18 to 21 bytes.
 pub(crate) fn read(case: u64) -> Verdict {
     let v = draw(case, 416);
     let k = (v / 16 % 20) as usize;
@@ -73,7 +75,8 @@ pub(crate) fn read(case: u64) -> Verdict {
     read_both(text, pick(v % 16 == 0, 18 + v / 16 % 4, 20) as usize)
 }
 
-// A second of a day: its date, and its label written, of one kind of clock and the other in turn, and read back.
+// A second of a day: its date, and its label written, of one kind of clock and the other in turn, and read
+// back.
 pub(crate) fn day(case: u64) -> Verdict {
     let mut s = crate::rules::fresh(case % 2);
     s.seconds = least(case % 49711 * 86400 + draw(case, 420) % 86400, 4294967295);

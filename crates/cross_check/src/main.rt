@@ -1,11 +1,12 @@
-// Runs a second implementation of documents 01 and 02 beside the first, over pseudo-random and edge cases, and compares
-// every answer to the last bit. One line for each group says how many cases were compared, how many differ, and how often
-// the second implementation gave each answer: 0 for accepted, else the number of the refusal, of the call or of the tick
-// that ended a catch-up. Of lists it also says how many offsets were accepted where there was an earlier one, and of
-// clocks at an edge in how many cases whole units that add up decide the microseconds or the refusal. The last line is the
-// verdict. It ends in `the two agree` where none of the cases that are owed is missing and none differs, and there were
-// 1,000 such offsets and as many such cases, up and down; else it begins with `cross_check: DIFFER` and says how many
-// differ in how many groups, whose lines above name them, or with `cross_check: TOO FEW` and says of what, and of how many.
+// Runs a second implementation of documents 01 and 02 beside the first, over pseudo-random and edge cases,
+// and compares every answer to the last bit. One line for each group says how many cases were compared, how
+// many differ, and how often the second implementation gave each answer: 0 for accepted, else the number of
+// the refusal, of the call or of the tick that ended a catch-up. Of lists it also says how many offsets were
+// accepted where there was an earlier one, and of clocks at an edge in how many cases whole units that add up
+// decide the microseconds or the refusal. The last line is the verdict. It ends in `the two agree` where none
+// of the cases that are owed is missing and none differs, and there were 1,000 such offsets and as many such
+// cases, up and down; else it begins with `cross_check: DIFFER` and says how many differ in how many groups,
+// whose lines above name them, or with `cross_check: TOO FEW` and says of what, and of how many.
 mod calls;
 mod dates;
 mod devices;
@@ -37,8 +38,8 @@ const ANSWERS: usize = 18;
 // The cases that are owed, of all groups together.
 const OWED: u64 = 1040575;
 
-// The fewest offsets of all lists that are accepted where there was an earlier one, whose gain is what the interval moves;
-// and the fewest cases that whole units decide, in either direction.
+// The fewest offsets of all lists that are accepted where there was an earlier one, whose gain is what the
+// interval moves; and the fewest cases that whole units decide, in either direction.
 const FEWEST: u64 = 1000;
 
 // How many groups there are.
@@ -162,8 +163,8 @@ fn tell_answers(met: &[u64; ANSWERS]) {
     }
 }
 
-// What a group came to, or all of them: cases compared and those that differ, groups without such a case, the offsets of
-// lists, and the cases that whole units decide.
+// What a group came to, or all of them: cases compared and those that differ, groups without such a case, the
+// offsets of lists, and the cases that whole units decide.
 struct Tally {
     compared: u64,
     differ: u64,

@@ -7,8 +7,8 @@ use crate::rules::step;
 use crate::rules::tick;
 use crate::signed::pick;
 
-// The answer of an event: the refusal of the call, how many ticks it made, the refusal of the tick that ended them, and the clock. Of a
-// single call both numbers in the middle are 0.
+// The answer of an event: the refusal of the call, how many ticks it made, the refusal of the tick that ended
+// them, and the clock. Of a single call both numbers in the middle are 0.
 pub(crate) struct Many {
     pub(crate) refusal: u64,
     pub(crate) count: u64,
@@ -25,8 +25,8 @@ fn answered(refusal: u64, count: u64, tick_refusal: u64, s: State) -> Many {
     }
 }
 
-// Up to n ticks of a sound clock, to the first that is refused; where `stop`, to the one that rolls the second over: only there the
-// microseconds fall.
+// Up to n ticks of a sound clock, to the first that is refused; where `stop`, to the one that rolls the
+// second over: only there the microseconds fall.
 fn ran(s: State, n: u64, stop: bool) -> Many {
     let mut t = s;
     let mut k: u64 = 0;
@@ -66,7 +66,8 @@ pub(crate) fn event(s: State, row: &[u64; ROW]) -> Many {
     answered(a.refusal, 0, 0, a.state)
 }
 
-// Up to n ticks as an event of a history: the refusal of the first that is refused, or 0; and the clock after the accepted ones.
+// Up to n ticks as an event of a history: the refusal of the first that is refused, or 0; and the clock after
+// the accepted ones.
 pub(crate) fn ticks(s: State, n: u64) -> Answer {
     let told = reading(s);
     if told.refusal != 0 {

@@ -80,7 +80,8 @@ fn mask_of(count: usize) -> u64 {
     }
 }
 
-// Up to sixteen numbers, one after the other: two, repeated. A list of one is written by the writer of a single number.
+// Up to sixteen numbers, one after the other: two, repeated. A list of one is written by the writer of a
+// single number.
 pub(crate) fn write(case: u64) -> Verdict {
     let a = some_number(case, 350);
     let b = some_number(case, 351);

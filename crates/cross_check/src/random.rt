@@ -1,5 +1,6 @@
-// Pseudo-random and edge values. Every value follows from a case's number and a number for what is drawn, so that a case can be run again
-// by its number. Signed values are drawn as the numbers that they are mapped to, so that both ends of a range are met.
+// Pseudo-random and edge values. Every value follows from a case's number and a number for what is drawn, so
+// that a case can be run again by its number. Signed values are drawn as the numbers that they are mapped to,
+// so that both ends of a range are met.
 use crate::devices::PHASE_MICRO;
 use crate::devices::adjustment_at;
 use crate::devices::farthest;
@@ -83,7 +84,8 @@ fn micros(case: u64, kind: u64) -> u64 {
     )
 }
 
-// An adjustment in the range of a kind, often near its middle or one of its ends, once in 16 just outside or as far again.
+// An adjustment in the range of a kind, often near its middle or one of its ends, once in 16 just outside or
+// as far again.
 fn adjustment_near(case: u64, kind: u64) -> u64 {
     let ends = plus(farthest(kind), farthest(kind));
     adjustment_at(kind, near(case, 16, ends, plus(ends, ends)))
@@ -99,8 +101,8 @@ fn adjustment(case: u64, kind: u64) -> u64 {
     }
 }
 
-// What follows the flag of an earlier update, up to `limit`: anything up to it, often near its ends or about 64, once in 16 above it; where the
-// flag is 0, 0, and once in 16 1.
+// What follows the flag of an earlier update, up to `limit`: anything up to it, often near its ends or about
+// 64, once in 16 above it; where the flag is 0, 0, and once in 16 1.
 pub(crate) fn since(case: u64, flag: u64, limit: u64) -> u64 {
     let v = draw(case, 23);
     let n = v / 16;
@@ -114,8 +116,8 @@ pub(crate) fn since(case: u64, flag: u64, limit: u64) -> u64 {
     }
 }
 
-// Parts of a phase unit near or outside its ends: a whole unit up or down, or a part less; what is one of either kind; the ends of 32 bits and
-// just beyond them; or any number that a record can hold.
+// Parts of a phase unit near or outside its ends: a whole unit up or down, or a part less; what is one of
+// either kind; the ends of 32 bits and just beyond them; or any number that a record can hold.
 pub(crate) fn odd_parts(kind: u64, v: u64) -> u64 {
     let unit = parts(kind) % 128;
     let n = v / 8;
@@ -199,8 +201,8 @@ fn made(adjustment: u64, ticks: u64) -> Signed {
 // Whole microseconds, in units of the phase, that are more than any number of ticks here makes.
 const MICROS_ABOVE: u64 = 16384 * PHASE_MICRO;
 
-// The phase from which that leads to about a whole microsecond, mostly another one than 0: up to so many units as there are ticks before or after
-// it.
+// The phase from which that leads to about a whole microsecond, mostly another one than 0: up to so many
+// units as there are ticks before or after it.
 fn edge_phase(total: Signed, ticks: u64, v: u64) -> u64 {
     let span = ticks % 512;
     let n = v / 4;
@@ -228,8 +230,8 @@ fn edge_micros(kind: u64, total: Signed, ticks: u64, v: u64) -> u64 {
     pick(total.negative, plus(from, carried), minus(from, carried)) % 1000000
 }
 
-// A sound clock, half of them in the last second, that so many ticks bring to about the end of a second and of a microsecond, and to a whole
-// phase unit that has added up, up or down; or just not.
+// A sound clock, half of them in the last second, that so many ticks bring to about the end of a second and
+// of a microsecond, and to a whole phase unit that has added up, up or down; or just not.
 pub(crate) fn at_edge(case: u64) -> Edge {
     let v = draw(case, 90);
     let mut s = crate::rules::fresh(v % 2);
@@ -296,7 +298,8 @@ pub(crate) fn catch_up_row(ceiling: u64, stop: u64) -> [u64; ROW] {
     short_row(4, ceiling, stop)
 }
 
-// 0 to 2, about a second of ticks of either kind, about the greatest ceiling, above it, or up to some 2.7 seconds of either kind.
+// 0 to 2, about a second of ticks of either kind, about the greatest ceiling, above it, or up to some 2.7
+// seconds of either kind.
 fn ceiling(case: u64) -> u64 {
     let v = draw(case, 86);
     match draw(case, 87) % 16 {
@@ -310,7 +313,8 @@ fn ceiling(case: u64) -> u64 {
     }
 }
 
-// Of the ceilings that are not refused those above 2,800 stop, since the second implementation makes their ticks one by one.
+// Of the ceilings that are not refused those above 2,800 stop, since the second implementation makes their
+// ticks one by one.
 fn some_catch_up_row(case: u64) -> [u64; ROW] {
     let n = ceiling(case);
     let many = (2800 < n) & (n <= 65536);

@@ -18,7 +18,8 @@ use crate::rules::state_of;
 use crate::signed::minus;
 use crate::signed::pick;
 
-// A clock's record, sound or not; the lent part is too short for about one in four. A writer checks 1, then 14.
+// A clock's record, sound or not; the lent part is too short for about one in four. A writer checks 1, then
+// 14.
 pub(crate) fn write(case: u64) -> Verdict {
     let s = crate::random::state(case);
     let row = row_of(s);
@@ -62,8 +63,8 @@ fn bytes_of(row: &[u64; ROW], case: u64) -> Bytes {
     )
 }
 
-// Every field is judged where it stands, one that is not there as 0; bytes after the end come last. A refused reading gives the fresh
-// clock of kind 0.
+// Every field is judged where it stands, one that is not there as 0; bytes after the end come last. A refused
+// reading gives the fresh clock of kind 0.
 fn read_record(bytes: &[u8; 64], end: usize) -> Answer {
     let mut row = [0u64; ROW];
     let version = crate::form::read(bytes, end, 0);
@@ -111,8 +112,8 @@ fn no_kind(v: u64) -> u64 {
     }
 }
 
-// A clock's record whose kind is none or the other one, or is missing, or stands in an old version, or is cut, or has a form of two bytes:
-// the version takes one byte, and the kind begins at place 1.
+// A clock's record whose kind is none or the other one, or is missing, or stands in an old version, or is
+// cut, or has a form of two bytes: the version takes one byte, and the kind begins at place 1.
 fn odd_kind(case: u64) -> Bytes {
     let v = draw(case, 520);
     let n = v / 8;
@@ -143,8 +144,8 @@ pub(crate) fn read_odd_kind(case: u64) -> Verdict {
     compared(odd_kind(case))
 }
 
-// A clock's record whose parts are odd, or are missing, or stand in an old version, or are cut, or of which one has a form of two bytes: the
-// record ends with the two.
+// A clock's record whose parts are odd, or are missing, or stand in an old version, or are cut, or of which
+// one has a form of two bytes: the record ends with the two.
 fn odd_parts(case: u64) -> Bytes {
     let v = draw(case, 530);
     let n = v / 8;

@@ -1,4 +1,5 @@
-// Document 01's replay, a second time: an event is a row of numbers, read by masks, and its line a pattern filled from the last digit on.
+// Document 01's replay, a second time: an event is a row of numbers, read by masks, and its line a pattern
+// filled from the last digit on.
 use crate::dates::PRINT;
 use crate::dates::clock_stamp;
 use crate::dates::filled;
@@ -12,10 +13,12 @@ use crate::rules::State;
 use crate::rules::step;
 use crate::signed::pick;
 
-// The most ticks that one event of a compared history may ask for: the second implementation runs them one by one.
+// The most ticks that one event of a compared history may ask for: the second implementation runs them one by
+// one.
 const MOST: u64 = 20000;
 
-// The numbers of an event that stand in a history: code, arguments, for a request the mode and the fields that it selects.
+// The numbers of an event that stand in a history: code, arguments, for a request the mode and the fields
+// that it selects.
 pub(crate) fn mask_of(row: &[u64; ROW]) -> u64 {
     let code = row[0];
     match code {
@@ -101,8 +104,8 @@ fn put_line(out: &mut [u8; 2048], at: usize, line: Line) -> usize {
     next
 }
 
-// Where a run stands: the clock, how many bytes of output there are, the place of the next event, the end of the history, the refusal of
-// the log line, else of the last refused event, and whether it is over.
+// Where a run stands: the clock, how many bytes of output there are, the place of the next event, the end of
+// the history, the refusal of the log line, else of the last refused event, and whether it is over.
 pub(crate) struct Replayed {
     pub(crate) state: State,
     pub(crate) size: usize,
@@ -167,7 +170,8 @@ fn cut(r: Replayed) -> Replayed {
     next
 }
 
-// A run after its next event, or after its end. One of too many ticks is where the history is cut; of more than 65,536 bytes none is run.
+// A run after its next event, or after its end. One of too many ticks is where the history is cut; of more
+// than 65,536 bytes none is run.
 fn advanced(r: Replayed, bytes: &[u8; 64], out: &mut [u8; 2048]) -> Replayed {
     let mut row = [0u64; ROW];
     let at = r.place;
@@ -183,7 +187,8 @@ fn advanced(r: Replayed, bytes: &[u8; 64], out: &mut [u8; 2048]) -> Replayed {
     }
 }
 
-// A run after the events before `place`, or after its end: a history of up to 64 bytes has no more than 64 events.
+// A run after the events before `place`, or after its end: a history of up to 64 bytes has no more than 64
+// events.
 pub(crate) fn caught_up(
     from: Replayed,
     place: usize,

@@ -1,5 +1,5 @@
-// The state and events of documents 01 and 02, a second time: ticks, rollovers, settings and requests, by sign and size. Signed fields are
-// held as the numbers that they are mapped to.
+// The state and events of documents 01 and 02, a second time: ticks, rollovers, settings and requests, by
+// sign and size. Signed fields are held as the numbers that they are mapped to.
 use crate::devices::PHASE_MICRO;
 use crate::devices::adjustment_at;
 use crate::devices::adjustment_of;
@@ -20,8 +20,9 @@ use crate::signed::plus;
 use crate::signed::sum;
 use crate::signed::unmapped;
 
-// The table of document 01, in its order; `since` is document 02's number of rollovers since the last offset, in place of its second. Behind
-// it document 02's kind of device, and the parts of a phase unit that each tick adds and that have added up.
+// The table of document 01, in its order; `since` is document 02's number of rollovers since the last offset,
+// in place of its second. Behind it document 02's kind of device, and the parts of a phase unit that each
+// tick adds and that have added up.
 pub(crate) struct State {
     pub(crate) seconds: u64,
     pub(crate) micros: u64,
@@ -105,7 +106,8 @@ pub(crate) fn row_of(s: State) -> [u64; ROW] {
     ]
 }
 
-// The state of a record's numbers, those that it lacks being 0. One of version 1 has no earlier update, whatever it says of one.
+// The state of a record's numbers, those that it lacks being 0. One of version 1 has no earlier update,
+// whatever it says of one.
 pub(crate) fn state_of(row: &[u64; ROW]) -> State {
     State {
         seconds: row[2],
@@ -126,14 +128,16 @@ pub(crate) fn state_of(row: &[u64; ROW]) -> State {
     }
 }
 
-// All numbers of a record as a mask; all but the parts, at the places 14 and 15; and of these all but the kind, at place 1.
+// All numbers of a record as a mask; all but the parts, at the places 14 and 15; and of these all but the
+// kind, at place 1.
 const WHOLE: u64 = 0xffff;
 
 const WITHOUT_PARTS: u64 = 0x3fff;
 
 const WITHOUT_KIND: u64 = WITHOUT_PARTS - 2;
 
-// The numbers that a record of a version has: the kind is there from version 3 on, the parts from version 4 on.
+// The numbers that a record of a version has: the kind is there from version 3 on, the parts from version 4
+// on.
 pub(crate) fn record_mask(version: u64) -> u64 {
     pick(
         version < 3,
@@ -142,8 +146,8 @@ pub(crate) fn record_mask(version: u64) -> u64 {
     )
 }
 
-// The largest number at place k of a record. A field from -m to m is mapped to 0 to 2m; the adjustment's range, at place 7, is not of that
-// form. At place 10 version 1 has a second, the later ones a count.
+// The largest number at place k of a record. A field from -m to m is mapped to 0 to 2m; the adjustment's
+// range, at place 7, is not of that form. At place 10 version 1 has a second, the later ones a count.
 fn most_at(row: &[u64; ROW], k: usize) -> u64 {
     match k {
         0 => WRITTEN,
@@ -160,7 +164,8 @@ fn most_at(row: &[u64; ROW], k: usize) -> u64 {
     }
 }
 
-// Whether the first `count` numbers of a record are in range: the version from 1 on, the adjustment as the record's kind has it.
+// Whether the first `count` numbers of a record are in range: the version from 1 on, the adjustment as the
+// record's kind has it.
 pub(crate) fn fits(row: &[u64; ROW], count: u64) -> bool {
     let mut ok = (count == 0) | (0 < row[0]);
     ok = ok & ((count < 8) | reached(row[1], row[7]));
@@ -207,13 +212,15 @@ pub(crate) fn gathered(s: State) -> Signed {
     sum(unmapped(s.leftover), unmapped(s.remainder))
 }
 
-// Phase and leftover after a tick as one number of parts: none of adjustment and remainder is lost, whichever of the two a part goes to.
+// Phase and leftover after a tick as one number of parts: none of adjustment and remainder is lost, whichever
+// of the two a part goes to.
 fn exact(s: State) -> Signed {
     let phase = sum(unmapped(s.phase), unmapped(s.adjustment));
     sum(in_parts(s.kind, phase), gathered(s))
 }
 
-// The leftover after a tick: less than a unit, on the side where it has added up, and the rest of the exact number whole units.
+// The leftover after a tick: less than a unit, on the side where it has added up, and the rest of the exact
+// number whole units.
 fn leftover_of(s: State, total: Signed) -> Signed {
     let unit = parts(s.kind);
     let side = gathered(s);
@@ -293,12 +300,14 @@ fn chosen(row: &[u64; ROW], k: usize, bit: u64, old: u64) -> u64 {
     pick((row[1] & bit) == 0, old, row[k % ROW])
 }
 
-// The rollovers that must have come since the last offset: none for a request that selects no offset, or where there was none before.
+// The rollovers that must have come since the last offset: none for a request that selects no offset, or
+// where there was none before.
 fn wait(s: State, row: &[u64; ROW]) -> u64 {
     pick(row[1] % 2 == 0, 0, s.flag % 2 * 64)
 }
 
-// The first of 4 to 9 and 17 that applies, or 0. A request is a row: code, mode, then the fields in order of mode bit.
+// The first of 4 to 9 and 17 that applies, or 0. A request is a row: code, mode, then the fields in order of
+// mode bit.
 fn judged(s: State, row: &[u64; ROW]) -> u64 {
     let mut refusal = pick(s.since < wait(s, row), 17, 0);
     refusal = pick(4 < chosen(row, 7, 32, 0), 9, refusal);

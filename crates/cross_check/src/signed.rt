@@ -1,5 +1,6 @@
-// Arithmetic of the second implementation: whole numbers in 64 bits, and signed ones as a sign and a size, so that every quotient drops its
-// fraction towards zero with no rule for negative numbers. Every size that document 01 reaches lies far below 2^62.
+// Arithmetic of the second implementation: whole numbers in 64 bits, and signed ones as a sign and a size, so
+// that every quotient drops its fraction towards zero with no rule for negative numbers. Every size that
+// document 01 reaches lies far below 2^62.
 
 // Zero may have either sign: `mapped` tells them apart no more.
 pub(crate) struct Signed {

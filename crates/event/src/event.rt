@@ -31,9 +31,10 @@ pub enum Event {
     CatchUp(u64, bool),
 }
 
-// The answer of an event: refusal 0 where it was accepted, else its number in the table of refusals; the clock after it; and
-// what the clock shows where the event is an accepted reading, else zeros and status 4. Of a catch-up also how many ticks were accepted,
-// and the refusal of the tick that ended them, or 0; of a single call both are 0.
+// The answer of an event: refusal 0 where it was accepted, else its number in the table of refusals; the
+// clock after it; and what the clock shows where the event is an accepted reading, else zeros and status 4.
+// Of a catch-up also how many ticks were accepted, and the refusal of the tick that ended them, or 0; of a
+// single call both are 0.
 pub struct Stepped {
     pub refusal: u8,
     pub count: u64,

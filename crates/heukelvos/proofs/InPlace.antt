@@ -1,5 +1,6 @@
--- The steps that a function shares with every other that is lent a clock, calls by value on a copy of it and stores the clock of the
--- answer where that is accepted. None of them names a field of the clock or of an answer.
+-- The steps that a function shares with every other that is lent a clock, calls by value on a copy of it and
+-- stores the clock of the answer where that is accepted. None of them names a field of the clock or of an
+-- answer.
 use mathlib.Core.Path.{_≡_, refl, sym}
 use mathlib.Core.Bool.{Bool, true, false, cond}
 use Prim.Native.Nat.{ℕ}

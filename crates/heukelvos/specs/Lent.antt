@@ -8,8 +8,8 @@ use Rattle.clock.specs.declared.run.CaughtUp.{CaughtUp}
 use Rattle.heukelvos.specs.declared.lent.Counted.{Counted}
 use Rattle.heukelvos.specs.declared.lent.Parted.{Parted}
 
--- "A refused call hands back the state it got": where the refusal is not 0, what was lent is as it was. It follows from what the lent
--- clock is said to hold, and is what a handler rests on.
+-- "A refused call hands back the state it got": where the refusal is not 0, what was lent is as it was. It
+-- follows from what the lent clock is said to hold, and is what a handler rests on.
 abbrev pub Kept : ℕ → Clock → Clock → Type 0
 Kept refusal before after = eqb refusal 0 ≡ false → after ≡ before
 

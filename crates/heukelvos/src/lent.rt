@@ -1,5 +1,5 @@
-// The calls on a lent clock, for a timer handler. Each is the call by value on a copy of the clock, and stores what that hands back; a
-// refused call stores nothing.
+// The calls on a lent clock, for a timer handler. Each is the call by value on a copy of the clock, and
+// stores what that hands back; a refused call stores nothing.
 ghost use mathlib.Core.Path.{_≡_};
 ghost use Rattle.clock.specs.Tick.{tickOf};
 ghost use Rattle.clock.specs.Ticks.{catchUpOf};
@@ -20,8 +20,8 @@ pub extern "C" fn heukelvos_tick_in_place(c: &mut Clock) -> u8
     done.refusal
 }
 
-// What a catch-up answers beside the clock: the refusal of the call, how many ticks were accepted, and the refusal of the tick that ended
-// them, or 0.
+// What a catch-up answers beside the clock: the refusal of the call, how many ticks were accepted, and the
+// refusal of the tick that ended them, or 0.
 #[repr(C)]
 pub struct Counted {
     pub refusal: u8,
@@ -34,7 +34,8 @@ struct Parted {
     clock: Clock,
 }
 
-// A catch-up by value, its answer apart from the clock; it takes no reference, so that only the lent clock is left to a proof by hand.
+// A catch-up by value, its answer apart from the clock; it takes no reference, so that only the lent clock is
+// left to a proof by hand.
 fn caught_up(c: Clock, ceiling: u64, stop: bool) -> Parted
     ensures { λ r. ⌜ r ≡ parted (catchUpOf c ceiling stop) ⌝ }
 {

@@ -19,7 +19,8 @@ use request::Request;
 // The greatest number that `clock::fresh` can be given, and no kind.
 const LAST_BYTE: u64 = 255;
 
-// C cuts a number to the width of its argument and says nothing: so it is 64 bits wide, and judged before it is cut.
+// C cuts a number to the width of its argument and says nothing: so it is 64 bits wide, and judged before it
+// is cut.
 #[no_mangle]
 pub extern "C" fn heukelvos_fresh(kind: u64) -> Outcome
     ensures { λ r. ⌜ r ≡ freshOf kind ⌝ }

@@ -1,5 +1,6 @@
--- The ends of a function that is lent a table of clocks. It has the table for its first parameter; the others, ss,
--- and the answer, Q, are values. At an end the table is given up: only what it then holds is left.
+-- The ends of a function that is lent a table of clocks. It has the table for its first parameter; the
+-- others, ss, and the answer, Q, are values. At an end the table is given up: only what it then holds is
+-- left.
 use mathlib.Core.Path.{_≡_}
 use mathlib.Core.List.{List, [], _∷_}
 use Prim.Native.Nat.{ℕ, _*_, _^_, _<_}

@@ -4,7 +4,7 @@ use mathlib.Core.Bool.{cond}
 use mathlib.Core.List.{List}
 use Prim.Native.Nat.{ℕ}
 use lib.Dec.{eqb, ltb}
-use Rattle.state.specs.Refusal.{refuse}
+use Rattle.state.specs.Refusal.{refusedField, refuse}
 use Rattle.state.specs.declared.state.Clock.{Clock}
 use Rattle.event.specs.declared.event.Call.the-variants.{Tick, Setting, Request, Reading}
 use Rattle.event.specs.declared.event.Event.{Event}
@@ -15,9 +15,10 @@ use Rattle.heukelvos_rig.specs.declared.rig_event.CodedEvent.{CodedEvent
 
 -- document 01: 12 "unknown [..] event code"
 abbrev pub codeRefusal : ℕ → ℕ
-codeRefusal code = refuse (ltb 4 code) 12 0
+codeRefusal code = refuse (ltb 4 code) refusedField 0
 
--- The event of a code: 0 tick, 1 setting, 2 request, 3 reading, 4 catch-up. Of an unknown code nothing is made, and a reading stands here.
+-- The event of a code: 0 tick, 1 setting, 2 request, 3 reading, 4 catch-up. Of an unknown code nothing is
+-- made, and a reading stands here.
 abbrev pub eventOf : CodedEvent → Event
 eventOf e =
     cond (eqb (e .code) 0) (Call Tick)
@@ -36,9 +37,10 @@ EveryEventCoded = (e : Event) → CodeOf e
 
 -- what is refused before a clock is looked at: 12, then 19 and 18
 abbrev pub codedRefusal : ℕ → ℕ → ℕ → ℕ
-codedRefusal clocks place code = refuse (ltb 4 code) 12 (tableRefusal clocks place)
+codedRefusal clocks place code = refuse (ltb 4 code) refusedField (tableRefusal clocks place)
 
--- The call's answer and the table after it: 12 comes before the table is looked at; else all is as for the event.
+-- The call's answer and the table after it: 12 comes before the table is looked at; else all is as for the
+-- event.
 unfoldable pub codedAnswerAt : List Clock → ℕ → CodedEvent → Answer
 codedAnswerAt table place e =
     cond (eqb (codeRefusal (e .code)) 0) (answerAt table place (eventOf e)) (bareAnswer (codeRefusal (e .code)))
@@ -55,11 +57,12 @@ pub record CodedRig : Type 0 where
 abbrev pub theCodedRig : CodedRig
 theCodedRig = record { answer = codedAnswerAt; left = codedTableAt }
 
--- A call is that on the rig for the event of its code, so that what is said of those is said of it; or nothing.
+-- A call is that on the rig for the event of its code, so that what is said of those is said of it; or
+-- nothing.
 pub record CodedCall (rig : CodedRig) (table : List Clock) (place : ℕ) (e : CodedEvent) : Type 0 where
   pub known : codeRefusal (e .code) ≡ 0
       → (rig .answer table place e ≡ answerAt table place (eventOf e)) × (rig .left table place e ≡ tableAt table place (eventOf e))
-  pub unknown : (codeRefusal (e .code) ≡ 0 → ⊥) → (rig .answer table place e ≡ bareAnswer 12) × (rig .left table place e ≡ table)
+  pub unknown : (codeRefusal (e .code) ≡ 0 → ⊥) → (rig .answer table place e ≡ bareAnswer refusedField) × (rig .left table place e ≡ table)
   -- "A refused call [..] hands back the clock [..] unchanged": of whatever number, and every clock
   pub kept : (rig .answer table place e .refusal ≡ 0 → ⊥) → rig .left table place e ≡ table
 

@@ -13,15 +13,13 @@ use rig::Parted;
 use rig::bare_answer;
 use rig::event_on;
 use rig::table_answer;
-
-// The refusal of a code that stands for no event.
-const UNKNOWN: u8 = 12;
+use state::REFUSED_FIELD;
 
 // The greatest code that stands for an event.
 const LAST_CODE: u64 = 4;
 
-// An event. Code 0 is a tick, 1 a setting to `seconds` and `micros`, 2 the request, 3 a reading, 4 a catch-up of up to `ceiling` ticks that
-// may `stop` at a rollover. Only the numbers of its code are looked at.
+// An event. Code 0 is a tick, 1 a setting to `seconds` and `micros`, 2 the request, 3 a reading, 4 a catch-up
+// of up to `ceiling` ticks that may `stop` at a rollover. Only the numbers of its code are looked at.
 #[repr(C)]
 pub struct CodedEvent {
     pub code: u64,
@@ -53,13 +51,13 @@ fn event_of(e: CodedEvent) -> Event
     }
 }
 
-// What is refused before a clock is looked at: 12 for an unknown code, then what the table refuses. Like the step below it takes no
-// reference, so that only the table is left to a proof by hand.
+// What is refused before a clock is looked at: 12 for an unknown code, then what the table refuses. Like the
+// step below it takes no reference, so that only the table is left to a proof by hand.
 fn judged(clocks: usize, place: usize, code: u64) -> Answer
     ensures { λ r. ⌜ r ≡ bareAnswer (codedRefusal clocks place code) ⌝ }
 {
     if LAST_CODE < code {
-        return bare_answer(UNKNOWN);
+        return bare_answer(REFUSED_FIELD);
     }
     table_answer(clocks, place)
 }
@@ -70,8 +68,9 @@ fn coded_step(c: Clock, e: CodedEvent) -> Parted
     event_on(c, event_of(e))
 }
 
-// 12 for an unknown code, then 19, then 18, before any clock is looked at; then what the event answers on the clock at the place, which is
-// copied out, and stored back where the event was accepted; a refused call stores nothing. In C the table is a pointer and a number of clocks.
+// 12 for an unknown code, then 19, then 18, before any clock is looked at; then what the event answers on the
+// clock at the place, which is copied out, and stored back where the event was accepted; a refused call
+// stores nothing. In C the table is a pointer and a number of clocks.
 #[no_mangle]
 pub extern "C" fn heukelvos_event_at(table: &mut [Clock], place: usize, e: CodedEvent) -> Answer
     ensures { λ r. ⌜ (r ≡ codedAnswerAt (now (table .entry)) place e) × (now (table .exit) ≡ codedTableAt (now (table .entry)) place e) ⌝ }

@@ -1,10 +1,12 @@
--- The events of a history, at a place of any bytes. Document 01, "Replay program": "a history in the same number form .. `0 n` ..; `1 s u`
--- setting; `2 mode` and the selected fields in order of mode bit, offset and frequency mapped ..; `3` print".
+-- The events of a history, at a place of any bytes. Document 01, "Replay program": "a history in the same
+-- number form .. `0 n` ..; `1 s u` setting; `2 mode` and the selected fields in order of mode bit, offset and
+-- frequency mapped ..; `3` print".
 use mathlib.Core.Bool.{cond}
 use mathlib.Core.List.{List}
 use Prim.Native.Nat.{ℕ, suc, _%_}
 use lib.Dec.{eqb}
 use lib.IntN.{ℤ}
+use Rattle.state.specs.Refusal.{refusedField}
 use Rattle.state.specs.Units.{askedMicros}
 use Rattle.event.specs.declared.event.Call.the-variants.{Setting, Request, Reading}
 use Rattle.number.specs.Mapping.{unmapped}
@@ -18,7 +20,8 @@ use Rattle.history.specs.declared.Event.the-variants.{Ticks, Call}
 use Rattle.history.specs.declared.Entry.{Entry}
 use Rattle.history.specs.declared.Entry.the-variants as E
 
--- What stands at a place: an event, with the place after it; or none, with its number in document 01's table of refusals.
+-- What stands at a place: an event, with the place after it; or none, with its number in document 01's table
+-- of refusals.
 pub data Found : Type 0 where
   found : (event : Event) (next : ℕ) → Found
   refused : (refusal : ℕ) → Found
@@ -77,7 +80,8 @@ fieldsAt mode bits s n0 =
       constant = constant;
     }))) next))))))
 
--- "`2 mode` and the selected fields .. (a mode above 63 brings the fields of mode mod 64 ..)": the request keeps the mode as it was given
+-- "`2 mode` and the selected fields .. (a mode above 63 brings the fields of mode mod 64 ..)": the request
+-- keeps the mode as it was given
 unfoldable pub requestAt : List ℕ → ℕ → Found
 requestAt s at = then refused (numberAt s at) (λ mode n0. fieldsAt mode (mode % suc greatestMode) s n0)
 
@@ -88,7 +92,7 @@ argumentsAt code s at =
     (cond (eqb code 1) (settingAt s at)
     (cond (eqb code 2) (requestAt s at)
     (cond (eqb code 3) (found (Call Reading) at)
-    (refused 12))))
+    (refused refusedField))))
 
 -- the event at place `at` of s; where s ends before the event does, 10 "bytes end inside a record or event"
 unfoldable pub eventAt : List ℕ → ℕ → Found

@@ -1,4 +1,5 @@
-// Histories: events in the number form of saved records, one after the other. `read` takes the event at a place of any bytes.
+// Histories: events in the number form of saved records, one after the other. `read` takes the event at a
+// place of any bytes.
 ghost use mathlib.Core.Path.{_≡_};
 ghost use Prim.Native.Nat.{_%_, _<_};
 ghost use Rattle.number.specs.Reading.{told as Number·told};
@@ -17,6 +18,7 @@ use request::AskedFrequency;
 use request::AskedOffset;
 use request::Request;
 use state::AskedMicros;
+use state::REFUSED_FIELD;
 
 // An event of a history.
 pub enum Event {
@@ -32,16 +34,13 @@ pub enum Entry {
     Refused(u8),
 }
 
-// Refusal 12: an unknown event code.
-const UNKNOWN: u8 = 12;
-
 // The refusal of a number ends the reading of its event.
 fn refusal_of(d: Decoded) -> Entry
     ensures { λ r. ⌜ told r ≡ refusedAs refused (Number·told d) ⌝ }
 {
     match d {
         Decoded::Refused(n) => Entry::Refused(n),
-        Decoded::Value { value: _, next: _ } => Entry::Refused(UNKNOWN),
+        Decoded::Value { value: _, next: _ } => Entry::Refused(REFUSED_FIELD),
     }
 }
 
@@ -177,6 +176,6 @@ pub fn read(bytes: &[u8], at: usize) -> Entry
         1 => setting_at(bytes, next),
         2 => request_at(bytes, next),
         3 => called(event::Call::Reading, next),
-        _ => Entry::Refused(UNKNOWN),
+        _ => Entry::Refused(REFUSED_FIELD),
     }
 }

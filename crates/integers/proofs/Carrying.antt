@@ -1,7 +1,8 @@
--- Carrying in one step and in many. A sum starts less than b from 0 and takes steps that all go one way; after each step the multiples of
--- b in it are carried, dropping the fraction towards zero. What is carried in all is what one division of the whole sum carries.
--- For steps that lead away from 0 that is so since all the fractions have one sign; steps that lead towards 0 carry nothing, since the sum
--- is still less than b from 0. So the signs need not be told apart where this is used.
+-- Carrying in one step and in many. A sum starts less than b from 0 and takes steps that all go one way;
+-- after each step the multiples of b in it are carried, dropping the fraction towards zero. What is carried
+-- in all is what one division of the whole sum carries. For steps that lead away from 0 that is so since all
+-- the fractions have one sign; steps that lead towards 0 carry nothing, since the sum is still less than b
+-- from 0. So the signs need not be told apart where this is used.
 use mathlib.Core.Path.{_≡_, refl, sym, ap}
 use Prim.Native.Nat.{ℕ, suc, _+_, _*_, _/_, _%_, _<_}
 use native.Mathlib.Nat.{div-eq-of-lt, mul-add-div-right, zero-div, div-add-mod', mod-lt, mod-eq-of-lt, zero-mod, add-mul}

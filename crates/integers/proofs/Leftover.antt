@@ -1,6 +1,7 @@
--- Two sums that are carried one into the other, in one step and in many. Each step adds r to a small sum that starts less than b from 0 at l, and
--- carries the whole multiples of b in it, dropping the fraction towards zero, as units into a large sum beside its own a; of that the multiples
--- of w are carried on. What j steps carry is one division each.
+-- Two sums that are carried one into the other, in one step and in many. Each step adds r to a small sum that
+-- starts less than b from 0 at l, and carries the whole multiples of b in it, dropping the fraction towards
+-- zero, as units into a large sum beside its own a; of that the multiples of w are carried on. What j steps
+-- carry is one division each.
 use mathlib.Core.Path.{_≡_, refl, sym, _∙_, ap}
 use mathlib.Core.Logic.{_⊎_, inl, inr, ⊎-elim}
 use Prim.Native.Nat.{ℕ, zero, suc, _*_, _/_, _≤_, _<_}

@@ -1,5 +1,6 @@
--- An integer as a difference of two naturals: `Diff z p n` says that z is p - n. The difference of a sum is had from those of its
--- summands, so that a linear statement on integers becomes one on naturals, with no case split for `omega`.
+-- An integer as a difference of two naturals: `Diff z p n` says that z is p - n. The difference of a sum is
+-- had from those of its summands, so that a linear statement on integers becomes one on naturals, with no
+-- case split for `omega`.
 use mathlib.Core.Path.{_≡_, refl, sym, ap, _∙_}
 use Prim.Native.Nat.{ℕ, _+_, _*_, _/_, _%_}
 use native.Mathlib.Omega.{arith}

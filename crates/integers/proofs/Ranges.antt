@@ -1,4 +1,5 @@
--- Ranges of integers, tested by `leZ` and `ltZ`, as bounds on both parts; and conjunctions of tests taken apart and put together.
+-- Ranges of integers, tested by `leZ` and `ltZ`, as bounds on both parts; and conjunctions of tests taken
+-- apart and put together.
 use mathlib.Core.Path.{_≡_, refl, sym, _∙_}
 use mathlib.Core.Bool.{Bool, true, false, _&&_, false≢true, and-false}
 use Prim.Native.Nat.{ℕ, zero, suc, _+_, _≤_, _<_}

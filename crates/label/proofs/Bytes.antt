@@ -1,4 +1,5 @@
--- Between twenty bytes and the parts of a label: what a label's bytes say, and that bytes which say it are the label's.
+-- Between twenty bytes and the parts of a label: what a label's bytes say, and that bytes which say it are
+-- the label's.
 use mathlib.Core.Path.{_≡_, refl, sym, ap, _∙_}
 use mathlib.Core.Bool.{Bool, true, false, cond}
 use mathlib.Core.List.{List, [], _∷_}

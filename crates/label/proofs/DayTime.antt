@@ -1,4 +1,5 @@
--- The second of a day that an hour, a minute and a second show: what the tests of `time_of` say, and that no two are shown alike.
+-- The second of a day that an hour, a minute and a second show: what the tests of `time_of` say, and that no
+-- two are shown alike.
 use mathlib.Core.Path.{_≡_, refl, sym, _∙_}
 use mathlib.Core.Bool.{Bool, true, false, true≢false, _&&_, _||_, cond}
 use Prim.Native.Nat.{ℕ, _+_, _*_, _/_, _%_, _≤_, _<_, _-_}

@@ -1,4 +1,5 @@
--- What stands in a buffer into which bytes were copied, and others after them; and where 60 was written over a label's seconds.
+-- What stands in a buffer into which bytes were copied, and others after them; and where 60 was written over
+-- a label's seconds.
 use mathlib.Core.Path.{_≡_, refl, ap}
 use mathlib.Core.Bool.{Bool, true, false, cond}
 use mathlib.Core.List.{List, _++_, append-nil}

@@ -1,5 +1,6 @@
--- The writer and the reader undo each other, and the reader accepts exactly the strings that the writer can write. The statements
--- (specs/Properties.antt) are over the definitions that the contracts of `write` and `read` name.
+-- The writer and the reader undo each other, and the reader accepts exactly the strings that the writer can
+-- write. The statements (specs/Properties.antt) are over the definitions that the contracts of `write` and
+-- `read` name.
 use mathlib.Core.Path.{_≡_, refl, sym, ap, _∙_}
 use mathlib.Core.Logic.{_↔_}
 use mathlib.Core.List.{List, _++_}

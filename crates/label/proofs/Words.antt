@@ -1,4 +1,5 @@
--- Three pairs of digits in one word, as `marked_pairs` works them out: numbers below 100, each 24 bits above the one before.
+-- Three pairs of digits in one word, as `marked_pairs` works them out: numbers below 100, each 24 bits above
+-- the one before.
 use mathlib.Core.Path.{_≡_, sym, _∙_}
 use mathlib.Core.List.{List, [], _∷_, _++_}
 use Prim.Native.Nat.{ℕ, _+_, _*_, _-_, _/_, _%_, _<_}

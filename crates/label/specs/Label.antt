@@ -67,7 +67,8 @@ labelOf s sixty =
     layout (dateOf (s / secondsPerDay)) (s / secondsPerHour % hoursPerDay) (s / secondsPerMinute % minutesPerHour)
     (cond sixty insertedSecond (s % secondsPerMinute))
 
--- "With status OOP and seconds mod 86,400 = 86,399 the second reads 60 (004); OOP at any other second reads as usual."
+-- "With status OOP and seconds mod 86,400 = 86,399 the second reads 60 (004); OOP at any other second reads
+-- as usual."
 abbrev pub isSixty : Clock → Bool
 isSixty c = eqb (c .status) statusOop && eqb (c .seconds % secondsPerDay) lastSecondOfDay
 

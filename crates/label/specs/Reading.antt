@@ -3,6 +3,7 @@ use mathlib.Core.Path.{_≡_}
 use mathlib.Core.Bool.{Bool, true, false}
 use mathlib.Core.List.{List}
 use Prim.Native.Nat.{ℕ}
+use Rattle.state.specs.Refusal.{refusedLabel}
 use Rattle.state.specs.declared.state.Clock.{Clock}
 use Rattle.state.specs.State.{inRange}
 use Rattle.label.specs.declared.Answer.{Answer}
@@ -19,7 +20,7 @@ abbrev pub label : ℕ → Bool → Answer
 label s sixty = record { refusal = 0; seconds = s; sixty = sixty }
 
 abbrev pub noLabel : Answer
-noLabel = record { refusal = 15; seconds = 0; sixty = false }
+noLabel = record { refusal = refusedLabel; seconds = 0; sixty = false }
 
 -- "The reader accepts exactly the strings of twenty bytes that the writer can write, and gives seconds and
 -- whether it was a 60"

@@ -1,5 +1,5 @@
-// UTC labels, `1970-01-01T00:00:00Z` to `2106-02-07T06:28:15Z`: `write` fills a lent buffer with a clock's label, and `read`
-// accepts exactly what `write` can write.
+// UTC labels, `1970-01-01T00:00:00Z` to `2106-02-07T06:28:15Z`: `write` fills a lent buffer with a clock's
+// label, and `read` accepts exactly what `write` can write.
 mod fields;
 mod text;
 mod units;
@@ -12,6 +12,9 @@ use crate::fields::Time;
 use calendar::Found;
 use state::Clock;
 use state::LAST_SECOND;
+use state::REFUSED_LABEL;
+use state::REFUSED_ROOM;
+use state::REFUSED_STATE;
 use state::SECONDS_PER_DAY;
 use state::TIME_OOP;
 use state::in_range;
@@ -24,17 +27,18 @@ const LAST_DAY: u32 = LAST_SECOND / SECONDS_PER_DAY;
 
 const LAST_DAY_END: u32 = LAST_SECOND % SECONDS_PER_DAY;
 
-// Writes the clock's label into the first twenty bytes of `out`, and leaves the later ones. Answers 0; or refusal 1 for a clock
-// out of range, then 14 for a buffer of fewer than twenty bytes, and leaves the buffer as it was.
+// Writes the clock's label into the first twenty bytes of `out`, and leaves the later ones. Answers 0; or
+// refusal 1 for a clock out of range, then 14 for a buffer of fewer than twenty bytes, and leaves the buffer
+// as it was.
 pub fn write(c: Clock, out: &mut [u8]) -> u8
     ensures { λ r. ⌜ (r ≡ writeRefusal c (now (out .entry))) × Readable r (now (out .entry)) (now (out .exit)) ⌝ }
     ensures { λ _. ⌜ now (out .exit) ≡ writtenTo c (now (out .entry)) ⌝ }
 {
     if !in_range(c) {
-        return 1;
+        return REFUSED_STATE;
     }
     if out.len() < SIZE {
-        return 14;
+        return REFUSED_ROOM;
     }
     text::put_label(c.seconds, out);
     // The second can read 60 while an inserted one is in progress, which is rare.
@@ -45,8 +49,8 @@ pub fn write(c: Clock, out: &mut [u8]) -> u8
     0
 }
 
-// The answer of `read`: refusal 0 with the second and whether it was a 60, which repeats the 59 before it; or refusal 15 with
-// second 0 and no 60.
+// The answer of `read`: refusal 0 with the second and whether it was a 60, which repeats the 59 before it; or
+// refusal 15 with second 0 and no 60.
 pub struct Answer {
     pub refusal: u8,
     pub seconds: u32,
@@ -57,7 +61,7 @@ fn not_a_label() -> Answer
     ensures { λ r. ⌜ r ≡ record { refusal = 15; seconds = 0; sixty = Bool.false } ⌝ }
 {
     Answer {
-        refusal: 15,
+        refusal: REFUSED_LABEL,
         seconds: 0,
         sixty: false,
     }

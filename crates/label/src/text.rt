@@ -58,7 +58,8 @@ const ZEROS: u64 = 0x3030_0030_3000_3030;
 
 const MARKS: u64 = 0x0000_0100_0001_0000;
 
-// Three numbers in two digits each, with a mark between them. All bytes are worked out in one word, 24 bits for each number.
+// Three numbers in two digits each, with a mark between them. All bytes are worked out in one word, 24 bits
+// for each number.
 fn marked_pairs(a: u64, b: u64, c: u64, mark: u64) -> [u8; 8]
     requires { ⌜ (a < 100) × (b < 100) × (c < 100) × (mark < 256) ⌝ }
     ensures { λ r. ⌜ r ≡ two a ++ (mark ∷ two b) ++ (mark ∷ two c) ⌝ }

@@ -1,4 +1,5 @@
--- Bytes written into a lent buffer: the answer and the buffer by the room that there is, and what is read there afterwards.
+-- Bytes written into a lent buffer: the answer and the buffer by the room that there is, and what is read
+-- there afterwards.
 use mathlib.Core.Path.{_≡_, refl, sym, _∙_, ap}
 use mathlib.Core.List.{List, _++_, append-assoc}
 use mathlib.Core.Logic.{⊎-elim}

@@ -1,5 +1,6 @@
--- Several numbers one after the other, as a record has them. Both laws of the number, stated from a place on, so that they chain with no
--- sum of lengths: `ahead-first` and `ahead-rest` read what was written, `_◂_` and `ahead-none` put together what was read.
+-- Several numbers one after the other, as a record has them. Both laws of the number, stated from a place on,
+-- so that they chain with no sum of lengths: `ahead-first` and `ahead-rest` read what was written, `_◂_` and
+-- `ahead-none` put together what was read.
 use mathlib.Core.Path.{_≡_, sym, _∙_, ap}
 use mathlib.Core.List.{List, [], _∷_, _++_, append-assoc}
 use Prim.Native.Nat.{ℕ, _+_, _-_, _<_, _≤_}

@@ -1,4 +1,5 @@
--- The definitions at worked examples: two numbers of the fresh clock's record in document 01, and each refusal at its edge.
+-- The definitions at worked examples: two numbers of the fresh clock's record in document 01, and each
+-- refusal at its edge.
 use mathlib.Core.Path.{_≡_, refl}
 use mathlib.Core.List.{List, [], _∷_}
 use Prim.Native.Nat.{ℕ}

@@ -1,5 +1,5 @@
--- What is known of every number that is read, and of every refusal: the number is below 2^35, and its bytes are one to five of those that
--- there are; no refusal is other than 10 or 11.
+-- What is known of every number that is read, and of every refusal: the number is below 2^35, and its bytes
+-- are one to five of those that there are; no refusal is other than 10 or 11.
 use mathlib.Core.Path.{_≡_, refl, ap}
 use mathlib.Core.Bool.{Bool, true, false}
 use mathlib.Core.List.{List, [], _∷_}

@@ -1,6 +1,6 @@
--- The laws of every layout of a record, by induction on it: no field is named here. `read-back` reads what was written, `taken` says what
--- was written where a reading was accepted, `known` which refusals there are, `layout-exactly-when` when each is given, `no-longer` how
--- long a record can be.
+-- The laws of every layout of a record, by induction on it: no field is named here. `read-back` reads what
+-- was written, `taken` says what was written where a reading was accepted, `known` which refusals there are,
+-- `layout-exactly-when` when each is given, `no-longer` how long a record can be.
 use mathlib.Core.Path.{_≡_, refl, sym, _∙_, ap}
 use mathlib.Core.Bool.{Bool, true, false, cond, _&&_, false≢true, and-assoc, and-false}
 use mathlib.Core.Bool.{and-true as and-one}

@@ -1,4 +1,5 @@
--- The mapping of signed numbers and its inverse: each undoes the other. And how the code works them out in the bits of any width.
+-- The mapping of signed numbers and its inverse: each undoes the other. And how the code works them out in
+-- the bits of any width.
 use mathlib.Core.Path.{_≡_, refl, _∙_, ap, subst}
 use mathlib.Core.Bool.{true, false}
 use mathlib.Core.Logic.{⊎-elim}

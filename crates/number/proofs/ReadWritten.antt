@@ -1,4 +1,5 @@
--- What was written is read: where the bytes of a number stand, that number is read, up to the place after them.
+-- What was written is read: where the bytes of a number stand, that number is read, up to the place after
+-- them.
 use mathlib.Core.Path.{_≡_, sym, _∙_, ap}
 use mathlib.Core.List.{List, _++_}
 use mathlib.Core.Logic.{⊎-elim}

@@ -1,4 +1,5 @@
--- How a reading goes, for any type of answer: where it stands before a number, and what a number that was read, or refused, makes of it.
+-- How a reading goes, for any type of answer: where it stands before a number, and what a number that was
+-- read, or refused, makes of it.
 use mathlib.Core.Path.{_≡_, sym, _∙_, ap}
 use Prim.Native.Nat.{ℕ}
 use Rattle.number.specs.Reading.{Found, number, refused}

@@ -1,5 +1,5 @@
--- What stands at a place, by the byte there: one law for each case of the first byte (`first-..`) and of one that follows a byte that
--- says more (`later-..`).
+-- What stands at a place, by the byte there: one law for each case of the first byte (`first-..`) and of one
+-- that follows a byte that says more (`later-..`).
 use mathlib.Core.Path.{_≡_, refl, sym, _∙_, ap}
 use mathlib.Core.Bool.{Bool, true, false, cond}
 use mathlib.Core.List.{List, _∷_}

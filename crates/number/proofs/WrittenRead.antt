@@ -1,5 +1,5 @@
--- What is read was written: where a number is read, the bytes up to the next place are that number's bytes. So a number has one written
--- form.
+-- What is read was written: where a number is read, the bytes up to the next place are that number's bytes.
+-- So a number has one written form.
 use mathlib.Core.Path.{_≡_, refl, sym, _∙_, ap}
 use mathlib.Core.List.{List, _∷_, _++_}
 use mathlib.Core.Logic.{⊎-elim}

@@ -1,6 +1,6 @@
--- The written form of a number, for readers and writers alike. Document 01, "Saved record": "Each is written in groups of seven bits,
--- lowest first, the top bit set on every byte but the last, shortest form only." No number has more than five bytes, so a number is
--- below 2^35; a byte is a number below 256.
+-- The written form of a number, for readers and writers alike. Document 01, "Saved record": "Each is written
+-- in groups of seven bits, lowest first, the top bit set on every byte but the last, shortest form only." No
+-- number has more than five bytes, so a number is below 2^35; a byte is a number below 256.
 use mathlib.Core.Bool.{cond}
 use mathlib.Core.List.{List, [], _∷_, _++_}
 use Prim.Native.Nat.{ℕ, zero, suc, _+_, _/_, _%_, _^_, _<_}
@@ -26,7 +26,8 @@ limit = 2 ^ 35
 abbrev pub Bytes : List ℕ → Type 0
 Bytes s = (i : ℕ) → getD s i 0 < 256
 
--- the bytes of n, where at most `more` may follow the first: a group that is the last one as it is, any other with the top bit set
+-- the bytes of n, where at most `more` may follow the first: a group that is the last one as it is, any other
+-- with the top bit set
 unfoldable pub bytesFrom : ℕ → ℕ → List ℕ
 bytesFrom zero n = n ∷ []
 bytesFrom (suc more) n = cond (ltb n group) (n ∷ []) ((topBit + n % group) ∷ bytesFrom more (n / group))

@@ -1,19 +1,21 @@
--- Records of numbers, as they are read from any bytes: fields in their order, and then nothing more. For any type of what is saved; a
--- crate that saves something gives its layout. Document 01: "A record reader takes fields in order, and a field that fails to read ends
--- the reading with its number; .. 13 comes last."
+-- Records of numbers, as they are read from any bytes: fields in their order, and then nothing more. For any
+-- type of what is saved; a crate that saves something gives its layout. Document 01: "A record reader takes
+-- fields in order, and a field that fails to read ends the reading with its number; .. 13 comes last."
 use mathlib.Core.Bool.{Bool, true, cond}
 use mathlib.Core.List.{List, [], _∷_}
 use Prim.Native.Nat.{ℕ}
 use lib.Dec.{ltb, eqb}
 use lib.IntN.{ℤ}
 use lib.ListN.{length}
+use Rattle.state.specs.Refusal.{refusedField, refusedBeyond}
 use Rattle.number.specs.Mapping.{unmapped}
 use Rattle.number.specs.Reading.{Found, number, refused, numberAt}
 use Rattle.number.specs.Sequence.{then}
 
--- a number out of the field's range is 12 "unknown record version .. or record field out of range"; 10 and 11 are the number's own
+-- a number out of the field's range is 12 "unknown record version .. or record field out of range"; 10 and 11
+-- are the number's own
 unfoldable pub judgedBy : (ℕ → Bool) → Found → Found
-judgedBy range (number v next) = cond (range v) (number v next) (refused 12)
+judgedBy range (number v next) = cond (range v) (number v next) (refused refusedField)
 judgedBy range (refused n) = refused n
 
 -- the field at place `at` of s
@@ -24,8 +26,9 @@ fieldAt range s at = judgedBy range (numberAt s at)
 abbrev pub mappedRange : (ℤ → Bool) → ℕ → Bool
 mappedRange range n = range (unmapped n)
 
--- A layout: a place, whose number says how the record goes on; or, after the last place, what the numbers before it stand for. A number
--- that was read may decide that a later place is not there: it takes no bytes, and reads as 0.
+-- A layout: a place, whose number says how the record goes on; or, after the last place, what the numbers
+-- before it stand for. A number that was read may decide that a later place is not there: it takes no bytes,
+-- and reads as 0.
 pub data Layout (A : Type 0) : Type 0 where
   place : (here : Bool) (range : ℕ → Bool) (rest : ℕ → Layout A) → Layout A
   whole : (saved : A) → Layout A
@@ -56,4 +59,4 @@ pub data Outcome (A : Type 0) : Type 0 where
 -- a reading from place `at` of s on; 13 "bytes after a record's end"
 unfoldable pub readFrom : {A : Type 0} → Layout A → List ℕ → ℕ → Outcome A
 readFrom (place here range rest) s at = then failed (placeAt here range s at) (λ n next. readFrom (rest n) s next)
-readFrom (whole saved) s at = cond (ltb at (length s)) (failed 13) (got saved)
+readFrom (whole saved) s at = cond (ltb at (length s)) (failed refusedBeyond) (got saved)

@@ -1,5 +1,5 @@
--- The mapping of signed numbers. Document 01, "Saved record": "Phase, offset left, frequency and adjustment are first mapped: v >= 0 to
--- 2v, v < 0 to -2v - 1."
+-- The mapping of signed numbers. Document 01, "Saved record": "Phase, offset left, frequency and adjustment
+-- are first mapped: v >= 0 to 2v, v < 0 to -2v - 1."
 use mathlib.Core.Bool.{cond}
 use Prim.Native.Nat.{ℕ, suc, _*_, _-_, _/_, _%_}
 use lib.Dec.{eqb}

@@ -8,6 +8,7 @@ use mathlib.Core.Logic.{_⊎_}
 use Prim.Native.Nat.{ℕ, _+_, _^_, _<_, _≤_}
 use lib.Dec.{ltb}
 use lib.ListN.{length, take, drop}
+use Rattle.state.specs.Refusal.{refusedEnded, refusedForm}
 use Rattle.number.specs.Form.{limit, mostBytes, Bytes, bytesOf}
 use Rattle.number.specs.Reading.{Found, number, refused}
 
@@ -39,7 +40,7 @@ Extends read = (s : List ℕ) (at v next : ℕ) → read s at ≡ number v next 
 
 -- no number is refused but with 10 or 11
 abbrev pub RefusedOnly : Reader → Type 0
-RefusedOnly read = (s : List ℕ) (at r : ℕ) → read s at ≡ refused r → (r ≡ 10) ⊎ (r ≡ 11)
+RefusedOnly read = (s : List ℕ) (at r : ℕ) → read s at ≡ refused r → (r ≡ refusedEnded) ⊎ (r ≡ refusedForm)
 
 -- how many bytes a number takes: 1 below 2^7, 2 below 2^14, 3 below 2^21, 4 below 2^28, 5 below 2^35
 abbrev pub SizeTable : (ℕ → ℕ) → Type 0

@@ -1,15 +1,18 @@
--- Reading a number at a place of some bytes. Document 01's refusals of a number: 10, "bytes end inside a record or event"; 11, "a number
--- not in its shortest form, or a fifth byte that says more follows"; "a fifth byte that says more is 11 even where the bytes end there".
+-- Reading a number at a place of some bytes. Document 01's refusals of a number: 10, "bytes end inside a
+-- record or event"; 11, "a number not in its shortest form, or a fifth byte that says more follows"; "a fifth
+-- byte that says more is 11 even where the bytes end there".
 use mathlib.Core.Bool.{Bool, cond, _&&_}
 use mathlib.Core.List.{List, [], _∷_}
 use Prim.Native.Nat.{ℕ, suc, _+_, _*_, _%_}
 use lib.Dec.{leb, ltb, eqb}
 use lib.ListN.{length, getD, take, drop}
+use Rattle.state.specs.Refusal.{refusedEnded, refusedForm}
 use Rattle.number.specs.Form.{group, topBit, mostBytes}
 use Rattle.number.specs.declared.decode.Decoded.{Decoded}
 use Rattle.number.specs.declared.decode.Decoded.the-variants as D
 
--- What stands at a place: a number, with the place after it; or none, with its number in document 01's table of refusals.
+-- What stands at a place: a number, with the place after it; or none, with its number in document 01's table
+-- of refusals.
 pub data Found : Type 0 where
   number : (value next : ℕ) → Found
   refused : (refusal : ℕ) → Found
@@ -32,12 +35,13 @@ valueOf (b ∷ bs) = b % group + group * valueOf bs
 abbrev pub longForm : List ℕ → ℕ → Bool
 longForm bs more = ltb 0 more && eqb (getD bs more 0) 0
 
--- the bytes from place `at` on, of which the first `more` say that more follows: the refusals, and the number that the next byte ends
+-- the bytes from place `at` on, of which the first `more` say that more follows: the refusals, and the number
+-- that the next byte ends
 unfoldable pub judged : ℕ → List ℕ → ℕ → Found
 judged at bs more =
-    cond (leb mostBytes more) (refused 11)
-    (cond (leb (length bs) more) (refused 10)
-    (cond (longForm bs more) (refused 11)
+    cond (leb mostBytes more) (refused refusedForm)
+    (cond (leb (length bs) more) (refused refusedEnded)
+    (cond (longForm bs more) (refused refusedForm)
     (number (valueOf (take (suc more) bs)) (at + suc more))))
 
 -- what stands at place `at` of s; past the end of s nothing does

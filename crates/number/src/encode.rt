@@ -9,6 +9,7 @@ ghost use Rattle.number.specs.Writing.{Writes};
 use crate::form::GROUP;
 use crate::form::MORE;
 use crate::form::MOST_BYTES;
+use state::REFUSED_ROOM;
 
 // The answer of a writer: refusal 0 and the place after what was written, or refusal 14 and 0.
 pub struct Written {
@@ -17,7 +18,7 @@ pub struct Written {
 }
 
 const TOO_SHORT: Written = Written {
-    refusal: 14,
+    refusal: REFUSED_ROOM,
     next: 0,
 };
 
@@ -104,7 +105,8 @@ fn fit_in(ns: &[u32], room: usize) -> bool
     true
 }
 
-// Writes the numbers one after the other from `at` on, where there is room for them, and gives the place after them.
+// Writes the numbers one after the other from `at` on, where there is room for them, and gives the place
+// after them.
 fn place_all(buf: &mut [u8], at: usize, ns: &[u32]) -> usize
     requires { ⌜ at + length (bytesOfAll (now ns)) ≤ length (now buf) ⌝ }
     ensures { λ r. ⌜ (r ≡ at + length (bytesOfAll (now (ns .entry)))) × (now (buf .exit) ≡ sets (now (buf .entry)) at (bytesOfAll (now (ns .entry)))) ⌝ }
@@ -118,7 +120,8 @@ fn place_all(buf: &mut [u8], at: usize, ns: &[u32]) -> usize
     p
 }
 
-// Writes all the numbers, one after the other, from `at` on. Every other byte stays; with too little room for all of them, every byte.
+// Writes all the numbers, one after the other, from `at` on. Every other byte stays; with too little room for
+// all of them, every byte.
 pub fn write_all(buf: &mut [u8], at: usize, ns: &[u32]) -> Written
     ensures { λ r. ⌜ Writes (now (buf .entry)) (now (buf .exit)) at (bytesOfAll (now (ns .entry))) r ⌝ }
 {

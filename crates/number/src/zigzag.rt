@@ -13,7 +13,8 @@ pub fn map(v: i32) -> u32
     }
 }
 
-// The signed number that n stands for. A decoded number may be wider than any field: 64 bits, so that nothing is cut before it is judged.
+// The signed number that n stands for. A decoded number may be wider than any field: 64 bits, so that nothing
+// is cut before it is judged.
 pub fn unmap(n: u64) -> i64
     ensures { λ r. ⌜ r ≡ unmapped n ⌝ }
 {

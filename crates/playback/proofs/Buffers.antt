@@ -58,7 +58,8 @@ module _ {ws buf end : List ℕ} {at q : ℕ} (a : Puts ws buf at end q) (room :
   from-at : drop at end ≡ ws ++ drop (at + length ws) buf
   from-at = ap (drop at) spread ∙ drop-at (take at buf) _ at front
 
-  -- what was written up to the place before the text, and the text, is what was written up to the place after it
+  -- what was written up to the place before the text, and the text, is what was written up to the place after
+  -- it
   pub puts-take : take q end ≡ take at buf ++ ws
   puts-take =
       ap (take q) (a .stores ∙ sets-eq ws buf at room)

@@ -69,7 +69,8 @@ module _ (s : List ℕ) where
   lines-ended zero r t = refl
   lines-ended (suc k) r t = rw (step-ended r t) (lines-ended k r t)
 
-  -- where a run has ended after some steps, it has the same end and the same lines after any others that end it
+  -- where a run has ended after some steps, it has the same end and the same lines after any others that end
+  -- it
   pub record SameEnd (j k : ℕ) (r : Run) : Type 0 where
     pub run : runAfter j s r ≡ runAfter k s r
     pub lines : linesOf j s r ≡ linesOf k s r

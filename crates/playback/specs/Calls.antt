@@ -1,4 +1,5 @@
--- A history as a list of single calls, so that what holds of every list of events (demand 3) holds of every history that is replayed.
+-- A history as a list of single calls, so that what holds of every list of events (demand 3) holds of every
+-- history that is replayed.
 use mathlib.Core.Path.{_≡_}
 use mathlib.Core.Bool.{false, cond}
 use mathlib.Core.List.{List, [], _∷_, _++_}
@@ -22,12 +23,14 @@ use Rattle.playback.specs.Lines.{printLine}
 use Rattle.playback.specs.Run.{longestHistory, Played, startOfRun, step, runAfter, stepsToEnd, replayOf}
 use Rattle.playback.specs.declared.run.Run.{Run}
 
--- The calls of an event: "`0 n` up to n single ticks". Where one is refused, those after it are refused too and change nothing.
+-- The calls of an event: "`0 n` up to n single ticks". Where one is refused, those after it are refused too
+-- and change nothing.
 abbrev pub callsOfEvent : Event → List call.Event
 callsOfEvent (Ticks n) = asEvents (singleTicks n)
 callsOfEvent (Call e) = single e ∷ []
 
--- the calls of what stands at a place, and then those of the rest; there are none in undecodable bytes, nor after them
+-- the calls of what stands at a place, and then those of the rest; there are none in undecodable bytes, nor
+-- after them
 abbrev pub callsAs : (ℕ → List call.Event) → Found → List call.Event
 callsAs rest (found e next) = callsOfEvent e ++ rest next
 callsAs rest (refused n) = []
@@ -41,9 +44,9 @@ callsFrom (suc k) s at = cond (leb (length s) at) [] (callsAs (callsFrom k s) (e
 unfoldable pub callsOfFirst : ℕ → List ℕ → List call.Event
 callsOfFirst k s = cond (ltb longestHistory (length s)) [] (callsFrom k s 0)
 
--- What replays histories, so that what is owed below can be stated of whatever does: the calls that it makes for
--- the first k events of s, where its run stands after k steps, the line of the step after them, and what it
--- comes to.
+-- What replays histories, so that what is owed below can be stated of whatever does: the calls that it makes
+-- for the first k events of s, where its run stands after k steps, the line of the step after them, and what
+-- it comes to.
 pub record Replayer : Type 0 where
   pub calls : ℕ → List ℕ → List call.Event
   pub after : ℕ → List ℕ → Run

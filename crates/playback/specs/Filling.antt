@@ -6,6 +6,7 @@ use mathlib.Core.Logic.{_⊎_}
 use Prim.Native.Nat.{ℕ, _+_, _≤_, _<_}
 use lib.Dec.{ltb}
 use lib.ListN.{length, take, drop}
+use Rattle.state.specs.Refusal.{refusedRoom}
 use Rattle.playback.specs.Run.{longestHistory, runAfter, linesOf}
 use Rattle.playback.specs.declared.run.Run.{Run}
 use Rattle.playback.specs.declared.run.RunLimits.{RunLimits}
@@ -20,7 +21,7 @@ runLimits = record { history = longestHistory; line = longestLine }
 
 -- 14 "lent buffer shorter than what is to be written": up to a line, but nothing once the run has ended
 abbrev pub fillRefusal : Run → ℕ → ℕ
-fillRefusal run room = cond (not (run .ended) && ltb room longestLine) 14 0
+fillRefusal run room = cond (not (run .ended) && ltb room longestLine) refusedRoom 0
 
 -- after k steps from `run` the run has not ended, and `room` bytes are enough for one more line
 pub record GoesOn (s : List ℕ) (run : Run) (room k : ℕ) : Type 0 where
@@ -30,7 +31,8 @@ pub record GoesOn (s : List ℕ) (run : Run) (room k : ℕ) : Type 0 where
 -- a run over s stood at `run`, and the call with the lent buffer `buf` answered r and left it as `buf′`
 pub record Fills (s : List ℕ) (run : Run) (buf buf′ : List ℕ) (r : Filling) : Type 0 where
   pub refusal : r .refusal ≡ fillRefusal run (length buf)
-  -- So many steps were made: the call goes on as long as it can. There are none exactly where the run had ended or the call is refused.
+  -- So many steps were made: the call goes on as long as it can. There are none exactly where the run had
+  -- ended or the call is refused.
   pub steps : ℕ
   pub onward : (k : ℕ) → k < steps → GoesOn s run (length buf) k
   pub stopped : (r .run .ended ≡ true) ⊎ (length buf < r .length + longestLine)

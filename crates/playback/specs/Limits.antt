@@ -22,8 +22,8 @@ pub record LineAtItsEdge : Type 0 where
   pub room : fillRefusal startOfRun 30 ≡ 0
   pub short : fillRefusal startOfRun 29 ≡ 14
 
--- The longest history, 65,536 bytes: it is run, and its first call is a reading; of one byte more nothing is run:
--- `log 13 at 65536`.
+-- The longest history, 65,536 bytes: it is run, and its first call is a reading; of one byte more nothing is
+-- run: `log 13 at 65536`.
 pub record HistoryAtItsEdge : Type 0 where
   pub run : step (prints 65536) startOfRun .line ≡ itsLine
   pub called : callsOfFirst 1 (prints 65536) ≡ single Reading ∷ []
@@ -33,8 +33,8 @@ pub record HistoryAtItsEdge : Type 0 where
   pub ended : step (prints 65537) startOfRun .run .ended ≡ true
   pub none : callsOfFirst 1 (prints 65537) ≡ []
 
--- One more than the history has bytes: so many steps end the run of a print, and so many calls with room for one
--- line; one fewer do not.
+-- One more than the history has bytes: so many steps end the run of a print, and so many calls with room for
+-- one line; one fewer do not.
 pub record EndAtItsEdge : Type 0 where
   pub steps : stepsToEnd onePrint ≡ 2
   pub ended : runAfter 2 onePrint startOfRun .ended ≡ true

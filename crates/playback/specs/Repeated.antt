@@ -9,8 +9,8 @@ use Rattle.playback.specs.Filling.{longestLine, Fills}
 use Rattle.playback.specs.declared.run.Run.{Run}
 use Rattle.playback.specs.declared.run.Filling.{Filling}
 
--- So many calls that go on with a run over s, each from where the one before left it and with room for a line; all that they wrote; and
--- where they left the run.
+-- So many calls that go on with a run over s, each from where the one before left it and with room for a
+-- line; all that they wrote; and where they left the run.
 pub data Repeated (s : List ℕ) : ℕ → Run → List ℕ → Run → Type 0 where
   none : {run : Run} → Repeated s zero run [] run
   more : {n : ℕ} {run end : Run} {buf buf′ ws : List ℕ} {r : Filling} → longestLine ≤ length buf → Fills s run buf buf′ r
@@ -20,7 +20,8 @@ pub data Repeated (s : List ℕ) : ℕ → Run → List ℕ → Run → Type 0 w
 pub record Replays (s : List ℕ) (n : ℕ) (ws : List ℕ) (end : Run) : Type 0 where
   -- it has ended after one call more than the history has bytes, if not before
   pub ends : length s < n → end .ended ≡ true
-  -- and then all that was written is the output of the history, and its clock is the one that the history leaves
+  -- and then all that was written is the output of the history, and its clock is the one that the history
+  -- leaves
   pub whole : end .ended ≡ true → replayOf s ≡ record { output = ws; clock = end .clock }
 
 -- repeating the call ends, and gives the replay of the history

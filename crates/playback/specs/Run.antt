@@ -1,9 +1,11 @@
--- A run over a history, step by step, and the whole output of a history with the clock that it leaves. Document 01, "Replay program".
+-- A run over a history, step by step, and the whole output of a history with the clock that it leaves.
+-- Document 01, "Replay program".
 use mathlib.Core.Bool.{true, false, cond}
 use mathlib.Core.List.{List, [], _++_}
 use Prim.Native.Nat.{ℕ, zero, suc}
 use lib.Dec.{leb, ltb}
 use lib.ListN.{length}
+use Rattle.state.specs.Refusal.{refusedBeyond}
 use Rattle.state.specs.Device.{kind256}
 use Rattle.state.specs.State.{freshClock}
 use Rattle.state.specs.declared.state.Clock.{Clock}
@@ -29,19 +31,19 @@ pub record Advanced : Type 0 where
   pub run : Run
   pub line : List ℕ
 
--- What stands at the run's place: an event runs, prints its line, and the run goes on after it; "undecodable bytes print the line
--- `log N at P`, P the place, from 0, of the event's first byte, and end the run".
+-- What stands at the run's place: an event runs, prints its line, and the run goes on after it; "undecodable
+-- bytes print the line `log N at P`, P the place, from 0, of the event's first byte, and end the run".
 abbrev pub stepAt : Run → Found → Advanced
 stepAt r (found e next) =
     record { run = record { clock = outcomeOf (r .clock) e .clock; place = next; ended = false }; line = lineOf (r .clock) e }
 stepAt r (refused n) = record { run = endOf r; line = logLine n (r .place) }
 
--- One step of a run over s. One that has ended stays as it is. 13 "a history above 65,536 bytes": "for 13, P is 65536 and nothing is
--- run". The end of the bytes ends the run.
+-- One step of a run over s. One that has ended stays as it is. 13 "a history above 65,536 bytes": "for 13, P
+-- is 65536 and nothing is run". The end of the bytes ends the run.
 unfoldable pub step : List ℕ → Run → Advanced
 step s r =
     cond (r .ended) (record { run = r; line = [] })
-    (cond (ltb longestHistory (length s)) (record { run = endOf r; line = logLine 13 longestHistory })
+    (cond (ltb longestHistory (length s)) (record { run = endOf r; line = logLine refusedBeyond longestHistory })
     (cond (leb (length s) (r .place)) (record { run = endOf r; line = [] })
     (stepAt r (eventAt s (r .place)))))
 
@@ -55,8 +57,8 @@ unfoldable pub linesOf : ℕ → List ℕ → Run → List ℕ
 linesOf zero s r = []
 linesOf (suc k) s r = step s r .line ++ linesOf k s (step s r .run)
 
--- the steps that end every run of a history from its start: an event has a byte at least, so that there are no more of them than bytes,
--- and one more step is the end
+-- the steps that end every run of a history from its start: an event has a byte at least, so that there are
+-- no more of them than bytes, and one more step is the end
 abbrev pub stepsToEnd : List ℕ → ℕ
 stepsToEnd s = suc (length s)
 

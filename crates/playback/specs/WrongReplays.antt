@@ -1,5 +1,5 @@
--- Replays that demand 3 of a history shuts out, each at a short history: it meets all that is stated but for the
--- field that it stands for.
+-- Replays that demand 3 of a history shuts out, each at a short history: it meets all that is stated but for
+-- the field that it stands for.
 use mathlib.Core.Bool.{cond}
 use mathlib.Core.List.{List, [], _∷_}
 use Prim.Native.Nat.{ℕ, min}

@@ -17,6 +17,8 @@ use clock::run_ticks;
 use event::step;
 use history::Entry;
 use history::Event;
+use state::REFUSED_BEYOND;
+use state::REFUSED_ROOM;
 
 // The longest history, in bytes.
 pub const LONGEST_HISTORY: usize = 65536;
@@ -142,7 +144,7 @@ fn finish(bytes: &[u8], run: Run, out: &mut [u8], at: usize) -> Step
     let c = run.clock;
     let place = run.place;
     if LONGEST_HISTORY < bytes.len() {
-        let next = put_log(out, at, 13, LONGEST_HISTORY as u32);
+        let next = put_log(out, at, REFUSED_BEYOND, LONGEST_HISTORY as u32);
         return ended_at(c, place, next);
     }
     ended_at(c, place, at)
@@ -181,16 +183,17 @@ fn advance(bytes: &[u8], run: Run, out: &mut [u8], at: usize) -> Step
     }
 }
 
-// The answer of `fill`: refusal 0, where the run stands, and how many bytes of the buffer were written; or refusal 14 for a
-// run that has not ended and a buffer that has no room for a line, with the run as it was and no bytes.
+// The answer of `fill`: refusal 0, where the run stands, and how many bytes of the buffer were written; or
+// refusal 14 for a run that has not ended and a buffer that has no room for a line, with the run as it was
+// and no bytes.
 pub struct Filling {
     pub refusal: u8,
     pub run: Run,
     pub length: usize,
 }
 
-// Goes on with a run until it has ended or the buffer has no room for one more line. Later bytes of the buffer stay. A run that has
-// ended stays as it is, with any buffer.
+// Goes on with a run until it has ended or the buffer has no room for one more line. Later bytes of the
+// buffer stay. A run that has ended stays as it is, with any buffer.
 pub fn fill(bytes: &[u8], run: Run, out: &mut [u8]) -> Filling
     ensures { λ r. ⌜ Fills (now (bytes .entry)) run (now (out .entry)) (now (out .exit)) r ⌝ }
 {
@@ -204,7 +207,7 @@ pub fn fill(bytes: &[u8], run: Run, out: &mut [u8]) -> Filling
     let room = out.len();
     if room < LONGEST_LINE {
         return Filling {
-            refusal: 14,
+            refusal: REFUSED_ROOM,
             run: run,
             length: 0,
         };

@@ -1,4 +1,5 @@
--- A field, by what the number reader told: one law for each case of the code. And what is known of every field that was read.
+-- A field, by what the number reader told: one law for each case of the code. And what is known of every
+-- field that was read.
 use mathlib.Core.Path.{_≡_, refl, sym, _∙_, ap}
 use mathlib.Core.Bool.{Bool, true, false, cond}
 use mathlib.Core.List.{List}

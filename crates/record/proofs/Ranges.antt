@@ -1,4 +1,5 @@
--- The ranges as the code tests them are those of the clock's table; and numbers in a range fit the types that hold them.
+-- The ranges as the code tests them are those of the clock's table; and numbers in a range fit the types that
+-- hold them.
 use mathlib.Core.Path.{_≡_, refl, sym, _∙_, ap}
 use mathlib.Core.Bool.{Bool, true, false, cond, _&&_}
 use mathlib.Core.Bool.{and-true as and-one}

@@ -1,9 +1,11 @@
--- What a saved record holds: the fields in their order, the numbers and the bytes of a clock. Document 01, "Saved record": "Thirteen
--- numbers: version 1, then the table's fields in its order (earlier update is two)." "Phase, offset left, frequency and adjustment are
--- first mapped". Document 02: "Record version 2 carries the count in the place of the second, 0..1,024 and 0 if the flag is 0; a version 1
--- record is still read, as having no earlier update. Writers use the newest version"; "Version 3 records hold the kind right after the
--- version, older ones read as 0"; "Version 4 records hold remainder and leftover, mapped, after the status; older versions read with
--- leftover 0 and the remainder 0 until the next rollover or setting". All versions are one layout.
+-- What a saved record holds: the fields in their order, the numbers and the bytes of a clock. Document 01,
+-- "Saved record": "Thirteen numbers: version 1, then the table's fields in its order (earlier update is
+-- two)." "Phase, offset left, frequency and adjustment are first mapped". Document 02: "Record version 2
+-- carries the count in the place of the second, 0..1,024 and 0 if the flag is 0; a version 1 record is still
+-- read, as having no earlier update. Writers use the newest version"; "Version 3 records hold the kind right
+-- after the version, older ones read as 0"; "Version 4 records hold remainder and leftover, mapped, after the
+-- status; older versions read with leftover 0 and the remainder 0 until the next rollover or setting". All
+-- versions are one layout.
 use mathlib.Core.Bool.{Bool, cond, _&&_}
 use mathlib.Core.List.{List, [], _∷_}
 use Prim.Native.Nat.{ℕ}
@@ -143,7 +145,8 @@ recordLayout =
 
 -- ---- the numbers of a record
 
--- a number for each place: those of the clock, but at the two places of the earlier update a flag, and what follows it
+-- a number for each place: those of the clock, but at the two places of the earlier update a flag, and what
+-- follows it
 unfoldable pub placesIn : ℕ → Clock → ℕ → ℕ → List ℕ
 placesIn version c flag last =
     version

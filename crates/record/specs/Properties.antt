@@ -9,6 +9,7 @@ use mathlib.Core.Logic.{_⊎_}
 use Prim.Native.Nat.{ℕ, _<_, _≤_}
 use lib.IntN.{ℤ, pos}
 use lib.ListN.{length, getD, take, drop}
+use Rattle.state.specs.Refusal.{refusedEnded, refusedForm, refusedField, refusedBeyond}
 use Rattle.number.specs.Form.{Bytes}
 use Rattle.number.specs.Layout.{suits, mappedRange}
 use Rattle.number.specs.Mapping.{mapped}
@@ -25,9 +26,9 @@ use Rattle.record.specs.declared.save.Saved.{Saved}
 abbrev pub suitsParts : ℕ → ℕ → ℤ → Bool
 suitsParts version kind z = suits (holdsParts version) (mappedRange (partsRange (deviceOf kind))) (mapped z)
 
--- A record of this version, with this flag and what follows it at the places of the earlier update, says the clock c: the clock is in
--- range, its kind, remainder and leftover are 0 where the version holds none, flag and last are in their ranges, and the clock's earlier
--- update is what is kept of them.
+-- A record of this version, with this flag and what follows it at the places of the earlier update, says the
+-- clock c: the clock is in range, its kind, remainder and leftover are 0 where the version holds none, flag
+-- and last are in their ranges, and the clock's earlier update is what is kept of them.
 pub record Says (version : ℕ) (c : Clock) (flag last : ℕ) : Type 0 where
   pub known : knownVersion version ≡ true
   pub sound : inRange c ≡ true
@@ -57,7 +58,7 @@ ReadsBack read =
 abbrev pub NothingFollows : Reader → Type 0
 NothingFollows read =
     (version : ℕ) (c : Clock) (flag last : ℕ) (rest : List ℕ) → Says version c flag last → 0 < length rest
-    → read (recordIn version c flag last ++ rest) ≡ refusedWith 13
+    → read (recordIn version c flag last ++ rest) ≡ refusedWith refusedBeyond
 
 -- "Writers use the newest version": what is written of a clock in range says it
 abbrev pub WritesNewest : Type 0
@@ -76,7 +77,8 @@ WithoutParts c = (c .remainder .0 ≡ pos 0) × (c .leftover .0 ≡ pos 0)
 abbrev pub noParts : List ℕ
 noParts = 0x00 ∷ 0x00 ∷ []
 
--- "one written form": accepted bytes are a record that says the clock which is read (that every such record is accepted is `ReadsBack`)
+-- "one written form": accepted bytes are a record that says the clock which is read (that every such record
+-- is accepted is `ReadsBack`)
 pub record Whole (s : List ℕ) (c : Clock) : Type 0 where
   pub flag : ℕ
   pub last : ℕ
@@ -97,8 +99,8 @@ pub record OfVersion3 (s : List ℕ) (c : Clock) : Type 0 where
   pub parts : WithoutParts c
   pub written : s ≡ recordIn 3 c (c .updated) (c .interval)
 
--- exactly these are read, and what is then written has the newest version in the place of its version and two zeros at the end, and is
--- else the same
+-- exactly these are read, and what is then written has the newest version in the place of its version and two
+-- zeros at the end, and is else the same
 pub record Version3 (read : Reader) (write : Writer) : Type 0 where
   pub only : (s : List ℕ) → Bytes s → read s .refusal ≡ 0 → versionOf s ≡ 3 → OfVersion3 s (read s .clock)
   pub always : (s : List ℕ) (c : Clock) → OfVersion3 s c → read s ≡ accepted c
@@ -117,8 +119,8 @@ pub record Version2 (read : Reader) (write : Writer) : Type 0 where
   pub always : (s : List ℕ) (c : Clock) → OfVersion2 s c → read s ≡ accepted c
   pub after : (s : List ℕ) (c : Clock) → OfVersion2 s c → write c ≡ newest ∷ kind256 ∷ drop 1 s ++ noParts
 
--- .. of version 1: those of such a clock, of kind 0, that has no earlier update, with a flag and a second beside it, which are judged as
--- document 01 says and not kept
+-- .. of version 1: those of such a clock, of kind 0, that has no earlier update, with a flag and a second
+-- beside it, which are judged as document 01 says and not kept
 pub record OfVersion1 (s : List ℕ) (c : Clock) : Type 0 where
   pub flag : ℕ
   pub second : ℕ
@@ -130,7 +132,8 @@ pub record OfVersion1 (s : List ℕ) (c : Clock) : Type 0 where
   pub parts : WithoutParts c
   pub written : s ≡ recordIn 1 c flag second
 
--- exactly these are read, and what is then written is what its version 2 record, without an earlier update, would be written again as
+-- exactly these are read, and what is then written is what its version 2 record, without an earlier update,
+-- would be written again as
 pub record Version1 (read : Reader) (write : Writer) : Type 0 where
   pub only : (s : List ℕ) → Bytes s → read s .refusal ≡ 0 → versionOf s ≡ 1 → OfVersion1 s (read s .clock)
   pub always : (s : List ℕ) (c : Clock) → OfVersion1 s c → read s ≡ accepted c
@@ -158,7 +161,8 @@ pub record Refused (x : Restored) : Type 0 where
 abbrev pub RefusedIsFresh : Reader → Type 0
 RefusedIsFresh read = (s : List ℕ) → (read s .refusal ≡ 0) ⊎ Refused (read s)
 
--- every refusal is given exactly when the reading stops so: at the first field that fails to read, and with 13 last
+-- every refusal is given exactly when the reading stops so: at the first field that fails to read, and with
+-- 13 last
 pub record RefusedWhen (read : Reader) (s : List ℕ) (r : ℕ) : Type 0 where
   pub only : read s ≡ refusedWith r → Stops recordLayout s 0 r
   pub always : Stops recordLayout s 0 r → read s ≡ refusedWith r
@@ -169,11 +173,11 @@ ExactlyWhen read = (s : List ℕ) (r : ℕ) → 0 < r → RefusedWhen read s r
 -- .. as of these: no bytes, a version of two bytes whose last is 0, version 5, kind 2 in a record of the
 -- newest version, and document 01's record of the fresh clock with a byte after its end
 pub record Refusals : Type 0 where
-  pub ends : readingOf [] ≡ refusedWith 10
-  pub long : readingOf (0x81 ∷ 0x00 ∷ []) ≡ refusedWith 11
-  pub unknown : readingOf (0x05 ∷ []) ≡ refusedWith 12
-  pub outside : readingOf (0x04 ∷ 0x02 ∷ []) ≡ refusedWith 12
-  pub follows : readingOf (0x01 ∷ freshFields256 ++ 0x00 ∷ []) ≡ refusedWith 13
+  pub ends : readingOf [] ≡ refusedWith refusedEnded
+  pub long : readingOf (0x81 ∷ 0x00 ∷ []) ≡ refusedWith refusedForm
+  pub unknown : readingOf (0x05 ∷ []) ≡ refusedWith refusedField
+  pub outside : readingOf (0x04 ∷ 0x02 ∷ []) ≡ refusedWith refusedField
+  pub follows : readingOf (0x01 ∷ freshFields256 ++ 0x00 ∷ []) ≡ refusedWith refusedBeyond
 
 -- ---- how long a record is, and the fresh clocks'
 
@@ -186,8 +190,8 @@ pub record LongestIs (version n : ℕ) : Type 0 where
   pub says : Says version one flag last
   pub long : length (recordIn version one flag last) ≡ n
 
--- "The longest record is 45 bytes", of version 1; with the count in the place of the second it is 42, with the kind 43, and with
--- remainder and leftover 45 again
+-- "The longest record is 45 bytes", of version 1; with the count in the place of the second it is 42, with
+-- the kind 43, and with remainder and leftover 45 again
 pub record Longest : Type 0 where
   pub version1 : LongestIs 1 45
   pub version2 : LongestIs 2 42
@@ -198,8 +202,8 @@ pub record Longest : Type 0 where
 abbrev pub OneLongest : Type 0
 OneLongest = (version m n : ℕ) → LongestIs version m → LongestIs version n → m ≡ n
 
--- the records of the newest version are written, and the others are still read; that of version 1 is document 01's: "The fresh clock,
--- whole, in hexadecimal"
+-- the records of the newest version are written, and the others are still read; that of version 1 is document
+-- 01's: "The fresh clock, whole, in hexadecimal"
 pub record FreshRecords : Type 0 where
   pub written256 : recordOf (freshClock kind256) ≡ 0x04 ∷ 0x00 ∷ freshFields256 ++ noParts
   pub written1024 : recordOf (freshClock kind1024) ≡ 0x04 ∷ 0x01 ∷ freshFields1024 ++ noParts
@@ -210,7 +214,8 @@ pub record FreshRecords : Type 0 where
 
 -- ---- through a buffer
 
--- after a write that was not refused, the bytes that it counted are read as the clock, and the later ones are as they were
+-- after a write that was not refused, the bytes that it counted are read as the clock, and the later ones are
+-- as they were
 pub record Kept (c : Clock) (buf after : List ℕ) (length : ℕ) : Type 0 where
   pub read : readingOf (take length after) ≡ accepted c
   pub later : drop length after ≡ drop length buf

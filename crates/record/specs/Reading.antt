@@ -1,5 +1,5 @@
--- Reading a record from any bytes: what the reader answers. Document 01: "a refused record reading gives the fresh state"; document 02:
--- "replay and refused record readings use kind 0".
+-- Reading a record from any bytes: what the reader answers. Document 01: "a refused record reading gives the
+-- fresh state"; document 02: "replay and refused record readings use kind 0".
 use mathlib.Core.List.{List}
 use Prim.Native.Nat.{ℕ}
 use Rattle.number.specs.Layout.{Outcome, got, failed, readFrom}

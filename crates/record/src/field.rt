@@ -9,12 +9,13 @@ ghost use Rattle.record.specs.Inner.{toldField, upTo, betweenZ};
 ghost use Rattle.record.specs.Layout.{knownVersion};
 use crate::layout::VERSION;
 use number::Decoded;
+use state::REFUSED_FIELD;
 
 // The last version that is read, as wide as the numbers that are.
 const LAST_VERSION: u64 = VERSION as u64;
 
-// What reading a field gives: its number, which is in its range, and the place after it; or the refusal, 10, 11 or 12.
-// A signed field's number is the one that it is mapped to.
+// What reading a field gives: its number, which is in its range, and the place after it; or the refusal, 10,
+// 11 or 12. A signed field's number is the one that it is mapped to.
 pub(crate) enum Field {
     Value(u32, usize),
     Refused(u8),
@@ -26,7 +27,7 @@ fn refusal_of(d: Decoded) -> Field
 {
     match d {
         Decoded::Refused(n) => Field::Refused(n),
-        Decoded::Value { value: _, next: _ } => Field::Refused(12),
+        Decoded::Value { value: _, next: _ } => Field::Refused(REFUSED_FIELD),
     }
 }
 
@@ -39,12 +40,12 @@ pub(crate) fn version(bytes: &[u8]) -> Field
         return refusal_of(d);
     };
     if value == 0 {
-        return Field::Refused(12);
+        return Field::Refused(REFUSED_FIELD);
     }
     if value <= LAST_VERSION {
         return Field::Value(value as u32, next);
     }
-    Field::Refused(12)
+    Field::Refused(REFUSED_FIELD)
 }
 
 // The field at `at` whose values are 0 to `most`.
@@ -58,10 +59,11 @@ pub(crate) fn plain(bytes: &[u8], at: usize, most: u32) -> Field
     if value <= most as u64 {
         return Field::Value(value as u32, next);
     }
-    Field::Refused(12)
+    Field::Refused(REFUSED_FIELD)
 }
 
-// The same field of a record that holds it from version `first` on: in an older one it takes no byte and is 0.
+// The same field of a record that holds it from version `first` on: in an older one it takes no byte and is
+// 0.
 pub(crate) fn since(first: u32, version: u32, bytes: &[u8], at: usize, most: u32) -> Field
     ensures { λ r. ⌜ toldField r ≡ placeAt (leb first version) (upTo most) (now (bytes .entry)) at ⌝ }
 {
@@ -83,7 +85,7 @@ pub(crate) fn signed(bytes: &[u8], at: usize, least: i32, most: i32) -> Field
     if ((least as i64) <= z) & (z <= most as i64) {
         return Field::Value(value as u32, next);
     }
-    Field::Refused(12)
+    Field::Refused(REFUSED_FIELD)
 }
 
 // The signed number that a field's number is mapped from.

@@ -1,5 +1,5 @@
-// What has been read of a record, by groups of fields, as the record holds them: signed fields are the numbers that they are mapped to.
-// And the clock that all of them stand for.
+// What has been read of a record, by groups of fields, as the record holds them: signed fields are the
+// numbers that they are mapped to. And the clock that all of them stand for.
 ghost use mathlib.Core.Path.{_≡_};
 ghost use Rattle.record.specs.Layout.{keptUpdate, clockOf};
 use crate::field::unmapped_of;

@@ -31,6 +31,8 @@ use state::MAX_FREQUENCY;
 use state::MAX_INTERVAL;
 use state::MAX_OFFSET;
 use state::PHASE_UPPER_END;
+use state::REFUSED_BEYOND;
+use state::REFUSED_FIELD;
 use state::TIME_BAD;
 use state::device_constants;
 use state::fresh;
@@ -38,15 +40,16 @@ use state::fresh;
 // The last of the kinds.
 const LAST_KIND: u32 = KIND_1024 as u32;
 
-// The greatest numbers that signed fields are mapped to whose ranges are as wide below 0 as above, so that a number up to these is in
-// range.
+// The greatest numbers that signed fields are mapped to whose ranges are as wide below 0 as above, so that a
+// number up to these is in range.
 const MAPPED_PHASE: u32 = 2 * (PHASE_UPPER_END as u32 - 1);
 
 const MAPPED_OFFSET: u32 = 2 * (MAX_OFFSET as u32);
 
 const MAPPED_FREQUENCY: u32 = 2 * (MAX_FREQUENCY as u32);
 
-// The answer of a reading: refusal 0 and the clock that was saved, or refusal 10, 11, 12 or 13 and the fresh clock of kind 0.
+// The answer of a reading: refusal 0 and the clock that was saved, or refusal 10, 11, 12 or 13 and the fresh
+// clock of kind 0.
 pub struct Restored {
     pub refusal: u8,
     pub clock: Clock,
@@ -68,11 +71,12 @@ fn refused(d: Field) -> Restored
 {
     match d {
         Field::Refused(n) => refused_with(n),
-        Field::Value(_, _) => refused_with(12),
+        Field::Value(_, _) => refused_with(REFUSED_FIELD),
     }
 }
 
-// The largest number behind the flag of an earlier update: its second in version 1, else the rollovers since it; 0 where there is none.
+// The largest number behind the flag of an earlier update: its second in version 1, else the rollovers since
+// it; 0 where there is none.
 fn last_most(version: u32, flag: u32) -> u32
     ensures { λ r. ⌜ r ≡ lastMost version flag ⌝ }
 {
@@ -85,7 +89,8 @@ fn last_most(version: u32, flag: u32) -> u32
     }
 }
 
-// The greatest number that a remainder or a leftover is mapped to: either has fewer parts than make a unit of the record's own device.
+// The greatest number that a remainder or a leftover is mapped to: either has fewer parts than make a unit of
+// the record's own device.
 fn mapped_parts(kind: u8) -> u32
     ensures { λ r. ⌜ r ≡ mappedParts kind ⌝ }
 {
@@ -112,8 +117,9 @@ pub fn read(bytes: &[u8]) -> Restored
     time_fields(bytes, n1, h)
 }
 
-// Each group of fields takes what was read before it, and hands it on to the next with its own. The groups are small: a call behind more
-// than three fields that may be refused is taken for one that is seldom made, and not inlined.
+// Each group of fields takes what was read before it, and hands it on to the next with its own. The groups
+// are small: a call behind more than three fields that may be refused is taken for one that is seldom made,
+// and not inlined.
 
 // Seconds, microseconds and phase.
 fn time_fields(bytes: &[u8], at: usize, h: Head) -> Restored
@@ -254,7 +260,7 @@ fn finished(bytes: &[u8], at: usize, c: Clock) -> Restored
     ensures { λ r. ⌜ r ≡ restored (readFrom (whole c) (now (bytes .entry)) at) ⌝ }
 {
     if at < bytes.len() {
-        return refused_with(13);
+        return refused_with(REFUSED_BEYOND);
     }
     Restored {
         refusal: 0,

@@ -3,6 +3,8 @@ ghost use Rattle.record.specs.Saving.{Saves};
 use crate::layout::NUMBERS;
 use crate::layout::numbers;
 use state::Clock;
+use state::REFUSED_ROOM;
+use state::REFUSED_STATE;
 use state::in_range;
 
 // No number has more than five bytes: there is room for every record.
@@ -14,13 +16,14 @@ pub struct Saved {
     pub length: usize,
 }
 
-// Writes the record of c into the buffer's first bytes; the later ones stay. A refused write leaves all of them.
+// Writes the record of c into the buffer's first bytes; the later ones stay. A refused write leaves all of
+// them.
 pub fn write(c: Clock, buf: &mut [u8]) -> Saved
     ensures { λ r. ⌜ Saves c (now (buf .entry)) (now (buf .exit)) r ⌝ }
 {
     if !in_range(c) {
         return Saved {
-            refusal: 1,
+            refusal: REFUSED_STATE,
             length: 0,
         };
     }
@@ -31,7 +34,7 @@ pub fn write(c: Clock, buf: &mut [u8]) -> Saved
     let n = w.next;
     if buf.len() < n {
         return Saved {
-            refusal: 14,
+            refusal: REFUSED_ROOM,
             length: 0,
         };
     }

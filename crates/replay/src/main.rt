@@ -1,5 +1,5 @@
-// Replays a history: standard input to standard output. A read or a write that fails is said on standard error; what was read before a
-// read that fails is not run.
+// Replays a history: standard input to standard output. A read or a write that fails is said on standard
+// error; what was read before a read that fails is not run.
 ghost use Prim.Native.Nat.{_≤_};
 ghost use lib.ListN.{length};
 ghost use Rattle.replay.specs.Input.{most};

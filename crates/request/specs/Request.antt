@@ -17,7 +17,8 @@ use Rattle.request.specs.declared.request.Request.{Request}
 abbrev pub bitSet : ℕ → ℕ → Bool
 bitSet mode bit = eqb (mode / bit % 2) 1
 
--- "A mode number selects fields: 1 offset (us), 2 frequency, 4 maximum error, 8 estimated error, 16 status, 32 time constant."
+-- "A mode number selects fields: 1 offset (us), 2 frequency, 4 maximum error, 8 estimated error, 16 status,
+-- 32 time constant."
 abbrev pub modeBits : ModeBits
 modeBits = record { offset = 1; frequency = 2; maxerror = 4; esterror = 8; status = 16; constant = 32 }
 
@@ -77,11 +78,13 @@ constantAbove r = selectsConstant r && ltb greatestConstant (r .constant)
 abbrev pub shortestInterval : ℕ
 shortestInterval = 64
 
--- 17 "A request that selects an offset fewer than 64 rollovers after the last accepted one"; "A clock without an earlier update is exempt."
+-- 17 "A request that selects an offset fewer than 64 rollovers after the last accepted one"; "A clock without
+-- an earlier update is exempt."
 abbrev pub offsetTooSoon : Clock → Request → Bool
 offsetTooSoon c r = selectsOffset r && eqb (c .updated) 1 && ltb (c .interval) shortestInterval
 
--- "The lowest of 1 to 9 that applies is given"; "Unselected fields are not examined." Document 02: 17 is "checked after 9".
+-- "The lowest of 1 to 9 that applies is given"; "Unselected fields are not examined." Document 02: 17 is
+-- "checked after 9".
 unfoldable pub requestRefusal : Clock → Request → ℕ
 requestRefusal c r =
     refuse (not (inRange c)) refusedState
@@ -94,8 +97,8 @@ requestRefusal c r =
     (refuse (offsetTooSoon c r) refusedSoon
     0)))))))
 
--- "Effects in the order frequency, errors, status, time constant, offset." Each of them is a definition of its own.
--- the frequency, before an offset moves it (frequency units)
+-- "Effects in the order frequency, errors, status, time constant, offset." Each of them is a definition of
+-- its own. the frequency, before an offset moves it (frequency units)
 abbrev pub frequencyWritten : Clock → Request → ℤ
 frequencyWritten c r = cond (selectsFrequency r) (r .frequency .0) (c .frequency .0)
 
@@ -118,7 +121,8 @@ constantWritten c r = cond (selectsConstant r) (r .constant) (c .constant)
 abbrev pub offsetAfter : Clock → Request → ℤ
 offsetAfter c r = cond (selectsOffset r) (r .offset .0 *ℤ pos offsetUnitsPerMicro) (c .offset .0)
 
--- document 02: the interval is "the number of rollovers since the last accepted offset"; document 01: "0 if there is none"
+-- document 02: the interval is "the number of rollovers since the last accepted offset"; document 01: "0 if
+-- there is none"
 abbrev pub interval : Clock → ℕ
 interval c = cond (eqb (c .updated) 1) (c .interval) 0
 
@@ -137,14 +141,16 @@ clamp z =
     (negℤ (pos greatestFrequency))
     (cond (ltZ (pos greatestFrequency) z) (pos greatestFrequency) z)
 
--- the frequency that an offset leads to; its gain takes the frequency and the time constant that this request wrote
+-- the frequency that an offset leads to; its gain takes the frequency and the time constant that this request
+-- wrote
 abbrev pub frequencyGrown : Clock → Request → ℤ
 frequencyGrown c r = frequencyWritten c r +ℤ gain (r .offset .0) (interval c) (constantWritten c r)
 
 abbrev pub frequencyAfter : Clock → Request → ℤ
 frequencyAfter c r = cond (selectsOffset r) (clamp (frequencyGrown c r)) (frequencyWritten c r)
 
--- an accepted offset becomes the earlier update: document 01's "The present second becomes the earlier update." No rollover has come since.
+-- an accepted offset becomes the earlier update: document 01's "The present second becomes the earlier
+-- update." No rollover has come since.
 abbrev pub updatedAfter : Clock → Request → ℕ
 updatedAfter c r = cond (selectsOffset r) 1 (c .updated)
 

@@ -72,8 +72,8 @@ fn constant_above(r: Request) -> bool
     is_set(r.mode, ADJ_TIMECONST) & (MAX_CONSTANT < r.constant)
 }
 
-// The count stops far above the least, so that it tells fewer rollovers as they were. It is judged first: with the mode's bit before it a replay
-// of ticks took 3 in 100 more instructions.
+// The count stops far above the least, so that it tells fewer rollovers as they were. It is judged first:
+// with the mode's bit before it a replay of ticks took 3 in 100 more instructions.
 fn offset_too_soon(c: Clock, r: Request) -> bool
     ensures { λ b. ⌜ b ≡ offsetTooSoon c r ⌝ }
 {

@@ -1,5 +1,5 @@
--- A call on a rig is a call on the one clock that it names. Each property is stated of whatever answers calls on a table, so that wrong
--- rigs can be shown not to have it (specs/WrongRigs.antt).
+-- A call on a rig is a call on the one clock that it names. Each property is stated of whatever answers calls
+-- on a table, so that wrong rigs can be shown not to have it (specs/WrongRigs.antt).
 use mathlib.Core.Path.{_≡_}
 use mathlib.Core.List.{List}
 use Prim.Native.Nat.{ℕ, _≤_, _<_}
@@ -23,8 +23,8 @@ pub record SameThere (rig : Rig) (a b : List Clock) (place : ℕ) (e : Event) : 
   pub answer : rig .answer a place e ≡ rig .answer b place e
   pub next : clockAt (rig .left a place e) place ≡ clockAt (rig .left b place e) place
 
--- "two tables of equal length that agree on the named clock give, for the same event and place, the same answer and the same next clock
--- there"
+-- "two tables of equal length that agree on the named clock give, for the same event and place, the same
+-- answer and the same next clock there"
 abbrev pub NamedClockDecides : Rig → Type 0
 NamedClockDecides rig =
     (a b : List Clock) (place : ℕ) (e : Event)
@@ -38,13 +38,14 @@ pub record OthersStay (rig : Rig) (table : List Clock) (place : ℕ) (e : Event)
 abbrev pub OthersAlwaysStay : Rig → Type 0
 OthersAlwaysStay rig = (table : List Clock) (place : ℕ) (e : Event) → OthersStay rig table place e
 
--- "A refused call gives its number from document 01 and hands back the clock [..] unchanged": of whatever number, and every clock
+-- "A refused call gives its number from document 01 and hands back the clock [..] unchanged": of whatever
+-- number, and every clock
 abbrev pub RefusedLeavesAll : Rig → Type 0
 RefusedLeavesAll rig =
     (table : List Clock) (place : ℕ) (e : Event)
     → (rig .answer table place e .refusal ≡ 0 → ⊥) → rig .left table place e ≡ table
 
--- "up to eight recorders": an event at any place of such a table comes to its clock. Of whatever judges a number of clocks and a place,
--- as `tableRefusal` does.
+-- "up to eight recorders": an event at any place of such a table comes to its clock. Of whatever judges a
+-- number of clocks and a place, as `tableRefusal` does.
 abbrev pub EveryPlaceServed : (ℕ → ℕ → ℕ) → Type 0
 EveryPlaceServed judges = (clocks place : ℕ) → clocks ≤ mostClocks → place < clocks → judges clocks place ≡ 0

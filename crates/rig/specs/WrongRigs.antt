@@ -1,4 +1,5 @@
--- Rigs that Req 07 shuts out: for each a property that it does not have. Each follows the rules but for what is said of it.
+-- Rigs that Req 07 shuts out: for each a property that it does not have. Each follows the rules but for what
+-- is said of it.
 use mathlib.Core.Bool.{cond}
 use mathlib.Core.List.{List, [], _∷_, _++_}
 use Prim.Native.Nat.{ℕ}

@@ -102,7 +102,8 @@ as-alone c before later k only =
       answer = λ t. cc (answer-is k (clockFrom c (ownEvents before)) g t);
     }
 
--- A part of a list is found by cases of what stands before it, so that `cc` sees a list that begins with a call.
+-- A part of a list is found by cases of what stands before it, so that `cc` sees a list that begins with a
+-- call.
 each-as-alone : (c : Clock) (calls : List RigCall) → OnlyTheseChange theRig c calls → EachAsAlone theRig c calls
 each-as-alone c calls only [] later k e = as-alone c [] later k (subst (OnlyTheseChange theRig c) (cc e) only)
 each-as-alone c calls only (j ∷ before) later k e = as-alone c (j ∷ before) later k (subst (OnlyTheseChange theRig c) (cc e) only)

@@ -1,4 +1,5 @@
--- Demand 3 on a rig. Document 02, Req 07: "Demand 3 holds, over its own events, for each clock that is lent fresh and that only these calls change."
+-- Demand 3 on a rig. Document 02, Req 07: "Demand 3 holds, over its own events, for each clock that is lent
+-- fresh and that only these calls change."
 use Prim.Native.Nat.{ℕ, _+_, _*_, _≤_, _<_}
 use mathlib.Core.Path.{_≡_}
 use mathlib.Core.Bool.{Bool, true, _&&_, cond}
@@ -21,16 +22,17 @@ use Rattle.rig.specs.Rig.{tableRefusal, clockAt, answered}
 use Rattle.rig.specs.OneClock.{Rig}
 use Rattle.rig.specs.declared.rig.Answer.{Answer}
 
--- A call on a table that holds a certain clock: the table that the call is lent, where that clock lies in it, and the place and the event of the call.
--- A tick of the clock in place is a call on the table of this one clock.
+-- A call on a table that holds a certain clock: the table that the call is lent, where that clock lies in it,
+-- and the place and the event of the call. A tick of the clock in place is a call on the table of this one
+-- clock.
 pub record RigCall : Type 0 where
   pub table : List Clock
   pub at : ℕ
   pub place : ℕ
   pub event : Event
 
--- What it is answered, and the table that it leaves. As the bounds of a clock, those of a rig are stated of whatever answers; by the rules
--- that is `theRig`, which `heukelvos_event_at` promises to be.
+-- What it is answered, and the table that it leaves. As the bounds of a clock, those of a rig are stated of
+-- whatever answers; by the rules that is `theRig`, which `heukelvos_event_at` promises to be.
 abbrev pub rigAnswer : Rig → RigCall → Answer
 rigAnswer rig k = rig .answer (k .table) (k .place) (k .event)
 
@@ -53,15 +55,17 @@ unfoldable pub ownEvents : List RigCall → List Event
 ownEvents [] = []
 ownEvents (k ∷ ks) = cond (reaches k) (k .event ∷ ownEvents ks) (ownEvents ks)
 
--- "that only these calls change": each call gets the clock as the call before left it, and the first gets c. Nothing else is said of the
--- tables: from one call to the next the clock may lie elsewhere, and other recorders may be set, exchanged, hung on or taken off. A call on
--- a table without the clock is none of the list, since it leaves the clock alone.
+-- "that only these calls change": each call gets the clock as the call before left it, and the first gets c.
+-- Nothing else is said of the tables: from one call to the next the clock may lie elsewhere, and other
+-- recorders may be set, exchanged, hung on or taken off. A call on a table without the clock is none of the
+-- list, since it leaves the clock alone.
 unfoldable pub OnlyTheseChange : Rig → Clock → List RigCall → Type 0
 OnlyTheseChange rig c [] = Unit {0}
 OnlyTheseChange rig c (k ∷ ks) =
     (k .at < length (k .table)) × (clockBefore k ≡ c) × OnlyTheseChange rig (clockBehind rig k) ks
 
--- A call of a list, with those before it, is one on a clock by itself, c at first, to which its own events have happened.
+-- A call of a list, with those before it, is one on a clock by itself, c at first, to which its own events
+-- have happened.
 pub record AsAlone (rig : Rig) (c : Clock) (before : List RigCall) (k : RigCall) : Type 0 where
   -- the clock that it gets, and the one that it leaves
   pub got : clockBefore k ≡ clockFrom c (ownEvents before)
@@ -78,14 +82,16 @@ EachAsAlone rig c calls =
 abbrev pub ReadingOf : RigCall → Type 0
 ReadingOf k = (reaches k ≡ true) × (k .event ≡ Call Reading)
 
--- The first bound of what the rig answers: a reading is accepted, and near the exact time of the clock's own events before it.
+-- The first bound of what the rig answers: a reading is accepted, and near the exact time of the clock's own
+-- events before it.
 abbrev pub ReadingsNear : Rig → ℕ → List RigCall → Type 0
 ReadingsNear rig kind calls =
     (before later : List RigCall) (k : RigCall) → calls ≡ before ++ (k ∷ later) → ReadingOf k
     → (rigAnswer rig k .refusal ≡ 0)
     × NearExact (measureOf kind) (tells (rigAnswer rig k .reading)) (bookOf kind (ownEvents before))
 
--- The third: whichever two readings of the clock, with n of its own ticks and neither a setting nor an inserted second between them.
+-- The third: whichever two readings of the clock, with n of its own ticks and neither a setting nor an
+-- inserted second between them.
 abbrev pub ReadingsForward : Rig → ℕ → List RigCall → Type 0
 ReadingsForward rig kind calls =
     (before between later : List RigCall) (j k : RigCall)

@@ -22,8 +22,8 @@ use Rattle.rig_bounds.specs.WrongRigs.{placed}
 abbrev pub both : List Clock
 both = freshClock kind256 ∷ freshClock kind1024 ∷ []
 
--- The first is set to 5 s. Then the second is read, each makes a tick, and so does a place without a recorder; and the second is read
--- again.
+-- The first is set to 5 s. Then the second is read, each makes a tick, and so does a place without a
+-- recorder; and the second is read again.
 abbrev pub untilFirstReading : List PlacedEvent
 untilFirstReading = placed 0 (set 5 0) ∷ []
 
@@ -49,14 +49,15 @@ abbrev pub ofSecond : List Event
 ofSecond = Call Reading ∷ Call Tick ∷ Call Reading ∷ []
 
 pub record OfTwoRecorders : Type 0 where
-  -- the second, lent fresh: 976 us or more for its one tick, on a clock by itself and by what the rig answers; near the exact time; and the
-  -- clock that is left is that of its own events
+  -- the second, lent fresh: 976 us or more for its one tick, on a clock by itself and by what the rig
+  -- answers; near the exact time; and the clock that is left is that of its own events
   pub demand : toldAfter stepOf kind1024 [] + 976 ≤ toldAfter stepOf kind1024 (Call Reading ∷ Call Tick ∷ [])
   pub forward : tells (readAfter untilFirstReading .reading) + 976 ≤ tells (readAfter untilSecondReading .reading)
   pub near :
       NearExact (measureOf kind1024) (tells (readAfter untilSecondReading .reading))
       (bookOf kind1024 (Call Reading ∷ Call Tick ∷ []))
   pub alone : clockAt (tableFrom both inTurn) 1 ≡ clockFrom (freshClock kind1024) ofSecond
-  -- the first, whose events begin with an accepted setting: a reading behind them is accepted, and its clock is that of its own
+  -- the first, whose events begin with an accepted setting: a reading behind them is accepted, and its clock
+  -- is that of its own
   pub accepted : stepOf (clockFrom (freshClock kind256) ofFirst) (Call Reading) .refusal ≡ 0
   pub aloneToo : clockAt (tableFrom both inTurn) 0 ≡ clockFrom (freshClock kind256) ofFirst

@@ -1,4 +1,5 @@
--- Rigs that demand 3 shuts out: for each the calls on a clock of the 256 Hz recorder, lent fresh, at which it fails.
+-- Rigs that demand 3 shuts out: for each the calls on a clock of the 256 Hz recorder, lent fresh, at which it
+-- fails.
 use mathlib.Core.List.{List, [], _∷_}
 use Prim.Native.Nat.{ℕ}
 use Rattle.state.specs.Device.{kind256}
@@ -36,8 +37,9 @@ abbrev pub readTickRead : List RigCall
 readTickRead =
     callsInTurn storesNothing 0 (freshClock kind256 ∷ []) (placed 0 Reading ∷ placed 0 Tick ∷ placed 0 Reading ∷ [])
 
--- Both are lists that demand 3 is about, and neither rig meets it: the one tells 5 s where it is 0 s; the other does not go forward, nor
--- does a call of it leave, or the next one get, what the clock by itself would be.
+-- Both are lists that demand 3 is about, and neither rig meets it: the one tells 5 s where it is 0 s; the
+-- other does not go forward, nor does a call of it leave, or the next one get, what the clock by itself would
+-- be.
 pub record ShutOut : Type 0 where
   pub answering : OnlyTheseChange answersFirst (freshClock kind256) readBehind
   pub near : ReadingsNear answersFirst kind256 readBehind → ⊥

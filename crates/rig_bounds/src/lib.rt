@@ -1,1 +1,2 @@
-// What a rig owes over a whole list of calls: the statement is in specs/, its proof in proofs/. This crate has no code.
+// What a rig owes over a whole list of calls: the statement is in specs/, its proof in proofs/. This crate
+// has no code.

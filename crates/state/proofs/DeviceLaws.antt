@@ -1,5 +1,5 @@
--- What the proofs take from a device: a few laws on its constants, which the device of each kind meets. No other proof of this crate looks
--- at a device's numbers.
+-- What the proofs take from a device: a few laws on its constants, which the device of each kind meets. No
+-- other proof of this crate looks at a device's numbers.
 use mathlib.Core.Path.{_≡_}
 use mathlib.Core.Bool.{Bool, true, false, cond}
 use Prim.Native.Nat.{ℕ, _+_, _*_, _/_, _≤_, _<_}

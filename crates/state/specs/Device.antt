@@ -1,4 +1,5 @@
--- The constants of the two recorders, in one record for each: what the rules take from a device they take by its name.
+-- The constants of the two recorders, in one record for each: what the rules take from a device they take by
+-- its name.
 use Prim.Native.Nat.{ℕ}
 use mathlib.Core.Bool.{Bool, not, cond}
 use lib.Dec.{leb, eqb}
@@ -8,7 +9,8 @@ use Rattle.state.specs.Refusal.{refusedState, refuse}
 use Rattle.state.specs.declared.device.Device.{Device}
 use Rattle.state.specs.declared.device.Constants.{Constants}
 
--- The timer runs at 256 Hz. A tick has 3,906 whole us; the 64 us that 256 x 3,906 lacks are 67,108,864 phase units a tick.
+-- The timer runs at 256 Hz. A tick has 3,906 whole us; the 64 us that 256 x 3,906 lacks are 67,108,864 phase
+-- units a tick.
 abbrev pub recorder256 : Device
 recorder256 =
     record {
@@ -21,7 +23,8 @@ recorder256 =
       most = phaseUnits (pos 303037440);
     }
 
--- document 02: "A second device has ticks of 976 us and lacks 576 us a second", which are 150,994,944 phase units a tick at 1,024 Hz.
+-- document 02: "A second device has ticks of 976 us and lacks 576 us a second", which are 150,994,944 phase
+-- units a tick at 1,024 Hz.
 abbrev pub recorder1024 : Device
 recorder1024 =
     record {
@@ -48,6 +51,7 @@ kindRange n = leb n kind1024
 unfoldable pub deviceOf : ℕ → Device
 deviceOf kind = cond (eqb kind kind1024) recorder1024 recorder256
 
--- what is told of a kind's constants; of a number that is no kind refusal 1, as of a clock that carries one, and the constants of kind 0
+-- what is told of a kind's constants; of a number that is no kind refusal 1, as of a clock that carries one,
+-- and the constants of kind 0
 abbrev pub constantsOf : ℕ → Constants
 constantsOf kind = record { refusal = refuse (not (kindRange kind)) refusedState 0; device = deviceOf kind }

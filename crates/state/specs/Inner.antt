@@ -1,4 +1,5 @@
--- What the crate's private functions answer, in the terms of the table, and what proofs take of a device. No public promise names these.
+-- What the crate's private functions answer, in the terms of the table, and what proofs take of a device. No
+-- public promise names these.
 use Prim.Native.Nat.{ℕ, _+_, _*_}
 use mathlib.Core.Bool.{Bool, _&&_}
 use lib.IntN.{ℤ, natAbs}
@@ -8,7 +9,8 @@ use Rattle.state.specs.State.{secondRange, microsRange, phaseRange, offs
 use Rattle.state.specs.declared.device.Device.{Device}
 use Rattle.state.specs.declared.state.Clock.{Clock}
 
--- the ranges of the fields up to the frequency; of those behind the adjustment; and of the kind, with those that depend on it
+-- the ranges of the fields up to the frequency; of those behind the adjustment; and of the kind, with those
+-- that depend on it
 abbrev pub firstFieldsRange : Clock → Bool
 firstFieldsRange c =
     secondRange (c .seconds)

@@ -1,5 +1,5 @@
--- The constants that outsiders use, as the functions that tell them answer: units, the ends of the ranges, the
--- status codes, the numbers of the refusals.
+-- The constants that outsiders use, as the functions that tell them answer: units, the ends of the ranges,
+-- the status codes, the numbers of the refusals.
 use Prim.Native.Nat.{ℕ, _*_}
 use lib.IntN.{pos, negℤ}
 use Rattle.state.specs.Units.{offsetUnitsPerMicro, phaseUnitsPerMicro, frequencyUnitsPerPpm, microsPerSecond, secondsPerDay}

@@ -82,11 +82,12 @@ refusedPlace = 18
 abbrev pub refusedTable : ℕ
 refusedTable = 19
 
--- Number n where its condition holds, else what the later conditions give. Written from the lowest number to the
--- highest, such a chain is "The lowest of 1 to 9 that applies is given".
+-- Number n where its condition holds, else what the later conditions give. Written from the lowest number to
+-- the highest, such a chain is "The lowest of 1 to 9 that applies is given".
 abbrev pub refuse : Bool → ℕ → ℕ → ℕ
 refuse applies n later = cond applies n later
 
--- "A refused call hands back the state it got": the answer of a call on c with refusal n that would make `next` of c.
+-- "A refused call hands back the state it got": the answer of a call on c with refusal n that would make
+-- `next` of c.
 abbrev pub answer : ℕ → Clock → Clock → Outcome
 answer n next c = record { refusal = n; clock = cond (eqb n 0) next c }

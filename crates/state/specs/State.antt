@@ -1,5 +1,6 @@
--- "The state and its ranges": the table of document 01, field by field, and the fresh clock. Document 02 has the rollovers since the
--- earlier update in the place of its second, and adds the kind of the device, the remainder and the leftover.
+-- "The state and its ranges": the table of document 01, field by field, and the fresh clock. Document 02 has
+-- the rollovers since the earlier update in the place of its second, and adds the kind of the device, the
+-- remainder and the leftover.
 use Prim.Native.Nat.{ℕ, _*_, _-_}
 use mathlib.Core.Bool.{Bool, _&&_, _||_}
 use lib.Dec.{leb, eqb}
@@ -108,8 +109,8 @@ errorRange n = leb n greatestError
 abbrev pub statusRange : ℕ → Bool
 statusRange n = leb n statusBad
 
--- document 02: "A unit is 16 parts (64 for kind 1); remainder and leftover lie strictly within plus or minus a unit": a phase unit has as many parts as
--- the device's divisor
+-- document 02: "A unit is 16 parts (64 for kind 1); remainder and leftover lie strictly within plus or minus
+-- a unit": a phase unit has as many parts as the device's divisor
 abbrev pub partsRange : Device → ℤ → Bool
 partsRange d z = strictlyWithin (d .divisor) z
 
@@ -131,7 +132,8 @@ inRange c =
     && partsRange (deviceOf (c .kind)) (c .remainder .0)
     && partsRange (deviceOf (c .kind)) (c .leftover .0)
 
--- The fields in groups, by what moves them, so that a rule names the groups that it moves and hands on the others whole.
+-- The fields in groups, by what moves them, so that a rule names the groups that it moves and hands on the
+-- others whole.
 
 -- moved by ticks and settings
 pub record Moment : Type 0 where

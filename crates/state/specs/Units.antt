@@ -1,7 +1,7 @@
--- The kinds of number, and what they are worth. "An offset unit is 2^-14 us, a phase unit 2^-28 us, a frequency unit 2^-24 ppm." Document 02 has
--- parts of a phase unit besides: "A unit is 16 parts (64 for kind 1)".
--- "Every quotient below drops the fraction towards zero, for negative numbers too": `quotZ` is that quotient, in all of these files,
--- and `remZ` what it leaves, with the dividend's sign.
+-- The kinds of number, and what they are worth. "An offset unit is 2^-14 us, a phase unit 2^-28 us, a
+-- frequency unit 2^-24 ppm." Document 02 has parts of a phase unit besides: "A unit is 16 parts (64 for kind
+-- 1)". "Every quotient below drops the fraction towards zero, for negative numbers too": `quotZ` is that
+-- quotient, in all of these files, and `remZ` what it leaves, with the dividend's sign.
 use Prim.Native.Nat.{ℕ, _-_, _^_}
 use lib.IntN.{ℤ}
 use Rattle.state.specs.declared.units.Micros.{Micros}

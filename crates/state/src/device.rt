@@ -47,7 +47,8 @@ pub const KIND_256: u8 = 0;
 
 pub const KIND_1024: u8 = 1;
 
-// The constants that the rules take for a kind. Of a number that is no kind, which every call refuses, those of kind 0.
+// The constants that the rules take for a kind. Of a number that is no kind, which every call refuses, those
+// of kind 0.
 pub(crate) fn device_of(kind: u8) -> Device
     ensures { λ r. ⌜ r ≡ deviceOf kind ⌝ }
 {

@@ -1,5 +1,6 @@
-// The state of the disciplined clock of README.kern and RFC 1589, and what describes it: the kinds of number, the constants of the devices, the
-// fields with their ranges, the fresh clock. The calls on it are in `clock`, which passes all of this on.
+// The state of the disciplined clock of README.kern and RFC 1589, and what describes it: the kinds of number,
+// the constants of the devices, the fields with their ranges, the fresh clock. The calls on it are in
+// `clock`, which passes all of this on.
 mod device;
 mod limits;
 mod outcome;

@@ -55,7 +55,8 @@ pub const TIME_OOP: u8 = 3;
 
 pub const TIME_BAD: u8 = 4;
 
-// The constants above as values. Each function promises what it answers, and that the constants of these names have the same values.
+// The constants above as values. Each function promises what it answers, and that the constants of these
+// names have the same values.
 
 pub struct Scales {
     pub phase: i32,
@@ -65,8 +66,8 @@ pub struct Scales {
     pub day: u32,
 }
 
-// What the units are worth: phase units and offset units in a microsecond, frequency units in 1 ppm, microseconds in a second, seconds
-// in a day.
+// What the units are worth: phase units and offset units in a microsecond, frequency units in 1 ppm,
+// microseconds in a second, seconds in a day.
 pub fn unit_scales() -> Scales
     ensures { λ r. ⌜ r ≡ scales ⌝ }
     ensures { λ _. do ⌜ (← ⟦PHASE_PER_MICRO⟧ .entry) ≡ scales .phase ⌝ }
@@ -102,7 +103,8 @@ pub struct Limits {
     pub error: u32,
 }
 
-// The ends of the state's ranges, and the greatest offset of a request. All are values that are allowed, but for those of the phase.
+// The ends of the state's ranges, and the greatest offset of a request. All are values that are allowed, but
+// for those of the phase.
 pub fn state_limits() -> Limits
     ensures { λ r. ⌜ r ≡ limits ⌝ }
     ensures { λ _. do ⌜ (← ⟦LAST_SECOND⟧ .entry) ≡ limits .seconds ⌝ }

@@ -27,8 +27,8 @@ use crate::units::OffsetUnits;
 use crate::units::PhaseParts;
 use crate::units::PhaseUnits;
 
-// A clock's state, in the order of document 01's table; document 02's other fields follow it in the order of its requests. Any value of the type may be
-// handed in, sound or not.
+// A clock's state, in the order of document 01's table; document 02's other fields follow it in the order of
+// its requests. Any value of the type may be handed in, sound or not.
 #[repr(C)]
 pub struct Clock {
     // seconds since 1970-01-01T00:00:00Z
@@ -54,13 +54,15 @@ pub struct Clock {
     pub status: u8,
     // kind of the device: KIND_256 0, KIND_1024 1
     pub kind: u8,
-    // what each tick adds to the leftover: the remainder of the division of the frequency in force, of which the adjustment has the quotient
+    // what each tick adds to the leftover: the remainder of the division of the frequency in force, of which
+    // the adjustment has the quotient
     pub remainder: PhaseParts,
     // the remainders added up, less the whole units that went into the phase
     pub leftover: PhaseParts,
 }
 
-// The fields up to the frequency. Every u32 is a second that can be told: the test of `seconds` always holds, and costs nothing.
+// The fields up to the frequency. Every u32 is a second that can be told: the test of `seconds` always holds,
+// and costs nothing.
 fn first_fields_in_range(c: Clock) -> bool
     ensures { λ r. ⌜ r ≡ firstFieldsRange c ⌝ }
 {
@@ -71,8 +73,8 @@ fn first_fields_in_range(c: Clock) -> bool
         & ((MIN_FREQUENCY <= c.frequency.0) & (c.frequency.0 <= MAX_FREQUENCY))
 }
 
-// The others, but for those whose range depends on the kind. How far the interval may go follows from the flag, 0 or MAX_INTERVAL: one test in
-// place of two, which every call makes.
+// The others, but for those whose range depends on the kind. How far the interval may go follows from the
+// flag, 0 or MAX_INTERVAL: one test in place of two, which every call makes.
 fn last_fields_in_range(c: Clock) -> bool
     ensures { λ r. ⌜ r ≡ lastFieldsRange c ⌝ }
 {
@@ -92,8 +94,9 @@ const PARTS_1024: i32 = RECORDER_1024.divisor as i32;
 
 const MINUS_PARTS_1024: i32 = -PARTS_1024;
 
-// The kind, and by it the adjustment, the remainder and the leftover. A branch on the kind, and its own ends as constants, take fewer instructions
-// than ends that are chosen; and one branch for the three fewer than one for each.
+// The kind, and by it the adjustment, the remainder and the leftover. A branch on the kind, and its own ends
+// as constants, take fewer instructions than ends that are chosen; and one branch for the three fewer than
+// one for each.
 fn fields_of_kind_in_range(
     kind: u8,
     a: PhaseUnits,
@@ -117,8 +120,9 @@ fn fields_of_kind_in_range(
     }
 }
 
-// Whether each field lies in its range. In parts, since tested all at once the compiled code reads fields in pairs: a pair of which a tick
-// in place has just stored one waits for that store, and a tick then takes twice the time.
+// Whether each field lies in its range. In parts, since tested all at once the compiled code reads fields in
+// pairs: a pair of which a tick in place has just stored one waits for that store, and a tick then takes
+// twice the time.
 pub fn in_range(c: Clock) -> bool
     ensures { λ r. ⌜ r ≡ inRange c ⌝ }
 {
@@ -131,8 +135,8 @@ pub fn in_range(c: Clock) -> bool
     fields_of_kind_in_range(c.kind, c.adjustment, c.remainder, c.leftover)
 }
 
-// The clock of a kind before anything has happened to it, which counts as set to 0 s. Of a number that is no kind: refusal 1, and the
-// clock of kind 0.
+// The clock of a kind before anything has happened to it, which counts as set to 0 s. Of a number that is no
+// kind: refusal 1, and the clock of kind 0.
 pub fn fresh(kind: u8) -> Outcome
     ensures { λ r. ⌜ r ≡ freshOf kind ⌝ }
 {

@@ -1,4 +1,5 @@
-// A recorder that sleeps makes up for the ticks that it has missed before it stamps the next frame: up to 65,536 in one call, 256 s.
+// A recorder that sleeps makes up for the ticks that it has missed before it stamps the next frame: up to
+// 65,536 in one call, 256 s.
 ghost use Prim.Native.Nat.{_≤_};
 use crate::show::show_clock;
 use crate::show::show_count;
@@ -17,15 +18,16 @@ struct Behind {
     clock: Clock,
 }
 
-// With `stop` the call ends after the tick that rolls the second over, whatever its ceiling: the place for a reading each second.
+// With `stop` the call ends after the tick that rolls the second over, whatever its ceiling: the place for a
+// reading each second.
 pub(crate) fn to_the_next_second(c: Clock) {
     let made = clock::catch_up(c, MAX_CEILING, true);
     show_count(b"to the next second, ticks made", made.count);
     show_clock(b"  which gives", made.clock);
 }
 
-// A night, made up for in 112 calls of 65,536 ticks and one of 32,768. The frequency and the rest of the offset are paid in it as if the
-// recorder had been awake: some 28,800 x 50 us and 1,000 us.
+// A night, made up for in 112 calls of 65,536 ticks and one of 32,768. The frequency and the rest of the
+// offset are paid in it as if the recorder had been awake: some 28,800 x 50 us and 1,000 us.
 pub(crate) fn night_asleep(c: Clock) {
     let evening = Behind {
         due: NIGHT,
@@ -44,7 +46,8 @@ fn ceiling_of(due: u64) -> u64
     if due < MAX_CEILING { due } else { MAX_CEILING }
 }
 
-// One call. What is left is counted by what the answer says was made, and not by what was asked for: the count is never above the ceiling.
+// One call. What is left is counted by what the answer says was made, and not by what was asked for: the
+// count is never above the ceiling.
 fn catch_up_once(b: Behind) -> Behind {
     let made = clock::catch_up(b.clock, ceiling_of(b.due), false);
     let clock = made.clock;
@@ -54,8 +57,8 @@ fn catch_up_once(b: Behind) -> Behind {
     }
 }
 
-// In straight code, for which no proof has to be written; docs/GUIDE.md has the loop. Where nothing is due any more, a call is asked for 0
-// ticks, which is accepted and does nothing.
+// In straight code, for which no proof has to be written; docs/GUIDE.md has the loop. Where nothing is due
+// any more, a call is asked for 0 ticks, which is accepted and does nothing.
 fn up_to_4_calls(b: Behind) -> Behind {
     catch_up_once(catch_up_once(catch_up_once(catch_up_once(b))))
 }
@@ -68,8 +71,8 @@ fn up_to_64_calls(b: Behind) -> Behind {
     up_to_16_calls(up_to_16_calls(up_to_16_calls(up_to_16_calls(b))))
 }
 
-// From five seconds before the last one on. The tick that would end the last second is refused: its number stands beside the count, the
-// ticks before it stand, and the call itself is accepted.
+// From five seconds before the last one on. The tick that would end the last second is refused: its number
+// stands beside the count, the ticks before it stand, and the call itself is accepted.
 pub(crate) fn into_the_last_second(c: Clock) {
     let set = clock::set(c, LAST_SECOND as u64 - 5, AskedMicros(0));
     let made = clock::catch_up(set.clock, MAX_CEILING, false);

@@ -1,4 +1,5 @@
-// The two kinds of recorder. A clock carries its kind, and no call changes it: the ticks of one are not those of the other.
+// The two kinds of recorder. A clock carries its kind, and no call changes it: the ticks of one are not those
+// of the other.
 use crate::show::show_clock;
 use crate::show::show_count;
 use crate::show::show_refusal;
@@ -13,7 +14,8 @@ fn show_kind(what: &[u8], c: Clock) {
     show_count(what, c.kind as u64);
 }
 
-// A second of the 1,024 Hz recorder: as many ticks as its constants tell. Both runs begin with the same clock, since it is a value.
+// A second of the 1,024 Hz recorder: as many ticks as its constants tell. Both runs begin with the same
+// clock, since it is a value.
 pub(crate) fn second_of_1024_ticks() {
     let new = clock::fresh(KIND_1024);
     show_refusal(b"a fresh clock of kind 1", new.refusal);

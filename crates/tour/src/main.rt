@@ -1,5 +1,6 @@
-// A tour of the clock, with a line of output for each step. A clock is a value: a call takes one and hands back the next, and refusal 0.
-// A call that is refused hands back the clock that it got, and the number of its refusal.
+// A tour of the clock, with a line of output for each step. A clock is a value: a call takes one and hands
+// back the next, and refusal 0. A call that is refused hands back the clock that it got, and the number of
+// its refusal.
 mod asleep;
 mod devices;
 mod show;
@@ -21,7 +22,8 @@ const LEAP_DAY: u64 = 951782400;
 
 const FIFTY_PPM: i64 = 50 * (FREQUENCY_PER_PPM as i64);
 
-// About a second: the timer of kind 0 runs at 256 Hz, and from one second's end to the next there are 255, 256 or 257 ticks.
+// About a second: the timer of kind 0 runs at 256 Hz, and from one second's end to the next there are 255,
+// 256 or 257 ticks.
 const TICKS: u64 = 256;
 
 fn main() {
@@ -33,8 +35,9 @@ fn main() {
     let set = clock::set(new, LEAP_DAY, AskedMicros(0));
     show_clock(b"set", set.clock);
 
-    // A request changes the fields that its mode selects; the others are not looked at. This one moves the clock forward by 1,000 us,
-    // a little in each second, and has it gain 50 us a second from then on. An offset also turns the status to 0, OK.
+    // A request changes the fields that its mode selects; the others are not looked at. This one moves the
+    // clock forward by 1,000 us, a little in each second, and has it gain 50 us a second from then on. An
+    // offset also turns the status to 0, OK.
     let asked = Request {
         mode: ADJ_OFFSET + ADJ_FREQUENCY,
         offset: AskedOffset(1000),
@@ -47,20 +50,21 @@ fn main() {
     let adjusted = request::adjust(set.clock, asked);
     show_refusal(b"1,000 us and 50 ppm asked for", adjusted.refusal);
 
-    // Neither is in force before a new second begins. In the one that then begins the clock gains 50 us by the frequency, and 1,000/1,024
-    // of a microsecond by the offset; a reading shows whole microseconds.
+    // Neither is in force before a new second begins. In the one that then begins the clock gains 50 us by
+    // the frequency, and 1,000/1,024 of a microsecond by the offset; a reading shows whole microseconds.
     let first = clock::run_ticks(adjusted.clock, TICKS);
     show_clock(b"256 ticks later", first.clock);
     let second = clock::run_ticks(first.clock, TICKS);
     show_clock(b"another 256 ticks later", second.clock);
 
-    // From one offset to the next at least 64 seconds have to end, or a faulty source would have the clock chase it. Only two have: the
-    // request is refused whole, its frequency too.
+    // From one offset to the next at least 64 seconds have to end, or a faulty source would have the clock
+    // chase it. Only two have: the request is refused whole, its frequency too.
     let again = request::adjust(second.clock, asked);
     show_refusal(b"the same asked for again", again.refusal);
     show_clock(b"  which gives", again.clock);
 
-    // Many ticks in one call, for a recorder that has slept. A clock is a value: each of these begins with the same one.
+    // Many ticks in one call, for a recorder that has slept. A clock is a value: each of these begins with
+    // the same one.
     asleep::to_the_next_second(second.clock);
     asleep::night_asleep(second.clock);
     asleep::into_the_last_second(second.clock);
@@ -71,7 +75,8 @@ fn main() {
     devices::no_third_kind();
 }
 
-// Saves a clock, then restores it from a damaged copy of its record and from the record itself. No record that is written is longer than 45 bytes.
+// Saves a clock, then restores it from a damaged copy of its record and from the record itself. No record
+// that is written is longer than 45 bytes.
 fn save_and_restore(c: Clock) {
     let mut bytes = [0u8; 45];
     let saved = record::write(c, &mut bytes);
@@ -91,8 +96,9 @@ fn damage_and_restore(bytes: &mut [u8]) {
     restore(b"the damaged copy", bytes);
 }
 
-// A record of version 1, which has the second of the last offset where later ones have the rollovers since it, and no kind. It is read; the
-// clock that it gives is of kind 0 and has no earlier offset, so that the next one pulls no frequency, and is not too soon.
+// A record of version 1, which has the second of the last offset where later ones have the rollovers since
+// it, and no kind. It is read; the clock that it gives is of kind 0 and has no earlier offset, so that the
+// next one pulls no frequency, and is not too soon.
 fn restore_an_old_record() {
     let bytes =
         b"\x01\x82\x98\xec\xc5\x03\x32\x00\x00\x00\x80\x80\x80\x40\x00\x01\x80\x98\xec\xc5\x03\x80\xc8\xd0\x07\x80\xc8\xd0\x07\x00";

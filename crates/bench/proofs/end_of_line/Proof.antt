@@ -1,4 +1,5 @@
--- `bench::end_of_line` meets its contract. The loop's invariant: the place is not before `at` and not past the end.
+-- `bench::end_of_line` meets its contract. The loop's invariant: the place is not before `at` and not past
+-- the end.
 use Prim.Native.Nat.{_≤_, _-_}
 use borrow.Author.Needs.{needs}
 use lib.ListN.{length}

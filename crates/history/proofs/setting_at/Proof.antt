@@ -1,4 +1,5 @@
--- `history::setting_at` meets its contract: a number that was read takes the reading to the next (`went`), and one that was refused ends it (`stopped`).
+-- `history::setting_at` meets its contract: a number that was read takes the reading to the next (`went`),
+-- and one that was refused ends it (`stopped`).
 use mathlib.Core.Path.{_≡_, refl, sym, _∙_, ap}
 use mathlib.Core.List.{List}
 use Prim.Native.Nat.{ℕ}

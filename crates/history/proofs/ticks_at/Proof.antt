@@ -1,4 +1,5 @@
--- `history::ticks_at` meets its contract: a number that was read takes the reading to the next (`went`), and one that was refused ends it (`stopped`).
+-- `history::ticks_at` meets its contract: a number that was read takes the reading to the next (`went`), and
+-- one that was refused ends it (`stopped`).
 use mathlib.Core.Path.{_≡_, refl, sym, ap}
 use mathlib.Core.List.{List}
 use Prim.Native.Nat.{ℕ}

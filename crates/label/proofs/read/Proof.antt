@@ -1,4 +1,5 @@
--- `label::read` meets its contract: each test refuses only bytes that no clock's label has, and what passes all is a label.
+-- `label::read` meets its contract: each test refuses only bytes that no clock's label has, and what passes
+-- all is a label.
 use mathlib.Core.Path.{sym, _∙_}
 use native.Mathlib.Omega.{arith}
 use borrow.Author.Tests.{not-true, not-false}

@@ -1,4 +1,5 @@
--- `replay::read_input` meets its contract. The loop's invariant: no more was read than the buffer has room for. The measure is the room left.
+-- `replay::read_input` meets its contract. The loop's invariant: no more was read than the buffer has room
+-- for. The measure is the room left.
 use mathlib.Core.Path.{_≡_}
 use Prim.Native.Nat.{_-_, _≤_}
 use borrow.Author.Needs.{needs}

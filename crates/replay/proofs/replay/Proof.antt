@@ -1,4 +1,5 @@
--- `replay::replay` ends: each call of `fill` ends the run or takes it further. The measure is what is left to run.
+-- `replay::replay` ends: each call of `fill` ends the run or takes it further. The measure is what is left to
+-- run.
 use mathlib.Core.Path.{_≡_}
 use native.Mathlib.Omega.{arith}
 use borrow.Author.Needs.{needs}

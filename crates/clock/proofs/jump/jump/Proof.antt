@@ -1,4 +1,5 @@
--- `clock::jump::jump`: each step fits its type, so that microseconds, phase and leftover are those of `jumpOf`.
+-- `clock::jump::jump`: each step fits its type, so that microseconds, phase and leftover are those of
+-- `jumpOf`.
 use Prim.Native.Nat.{_-_}
 use lib.Dec.{lit<}
 use Rattle.state.proofs.Ok.{Ok, ok}

@@ -1,4 +1,5 @@
--- `clock::jump::jump_length`: as many ticks as are asked for, or as many as leave all but the last within the second.
+-- `clock::jump::jump_length`: as many ticks as are asked for, or as many as leave all but the last within the
+-- second.
 use Prim.Native.Nat.{ℕ, _+_, _-_, _*_, _/_, _≤_, _<_}
 use native.Mathlib.Nat.{mul-le-mul-left, mul-le-mul-right, mul-div-le}
 use native.Mathlib.Omega.{arith}

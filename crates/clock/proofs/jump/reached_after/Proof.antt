@@ -1,4 +1,5 @@
--- `clock::jump::reached_after`: each step fits its type, so that units and leftover are those of `reachedAfter`.
+-- `clock::jump::reached_after`: each step fits its type, so that units and leftover are those of
+-- `reachedAfter`.
 use Prim.Native.Nat.{_-_}
 use borrow.Author.Needs.{needs}
 use mir.Facts.{toZ-pos}

@@ -1,4 +1,5 @@
--- `clock::rollover::increments_for`: the steps of the adjustment fit 32 bits, so that it is what `adjustmentFor` says.
+-- `clock::rollover::increments_for`: the steps of the adjustment fit 32 bits, so that it is what
+-- `adjustmentFor` says.
 use borrow.Author.Needs.{needs}
 use mir.Facts.{toZ-ofZ, toZ-pos}
 use mir.Syntax.{w32}

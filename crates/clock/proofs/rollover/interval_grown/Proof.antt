@@ -1,4 +1,5 @@
--- `clock::rollover::interval_grown`: one more, where there is an earlier update and the longest interval is not reached.
+-- `clock::rollover::interval_grown`: one more, where there is an earlier update and the longest interval is
+-- not reached.
 use borrow.Author.Needs.{needs}
 use borrow.Author.Tests.{eq-eqb, eqb-true}
 use mathlib.Core.Path.{_≡_, refl}

@@ -1,5 +1,6 @@
--- `clock::run::run`: a run by turns. The loop's invariant: the clock is in range, and all ticks make of the clock as it was what those still
--- to come make of it as it is, after those that were accepted. The measure is the ticks to come.
+-- `clock::run::run`: a run by turns. The loop's invariant: the clock is in range, and all ticks make of the
+-- clock as it was what those still to come make of it as it is, after those that were accepted. The measure
+-- is the ticks to come.
 use mathlib.Core.Path.{_≡_, sym, _∙_}
 use mathlib.Core.Bool.{true}
 use Prim.Native.Nat.{_+_, _-_, _≤_}

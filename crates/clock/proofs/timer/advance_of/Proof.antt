@@ -1,4 +1,5 @@
--- `clock::timer::advance_of`: the steps of a tick fit 32 bits, so that microseconds, phase and leftover are what the rules say.
+-- `clock::timer::advance_of`: the steps of a tick fit 32 bits, so that microseconds, phase and leftover are
+-- what the rules say.
 use borrow.Author.Needs.{needs}
 use lib.Dec.{lit<}
 use mir.Facts.{toZ-ofZ, toZ-pos}

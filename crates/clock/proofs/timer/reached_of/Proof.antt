@@ -1,4 +1,5 @@
--- `clock::timer::reached_of`: two tests as numbers tell the unit that a tick reaches, since divisor and parts fit 32 bits.
+-- `clock::timer::reached_of`: two tests as numbers tell the unit that a tick reaches, since divisor and parts
+-- fit 32 bits.
 use mathlib.Core.Path.{_≡_}
 use Prim.Native.Nat.{ℕ}
 use borrow.Author.Needs.{needs}

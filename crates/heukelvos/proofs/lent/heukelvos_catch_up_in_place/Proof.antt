@@ -129,9 +129,11 @@ module _ {M : Type 1} (𝓤 : URA M) (H : Heap 𝓤) (A : Atoms 𝓤) (W : Given
         enter ! C Λ code.function (vptr b o ∷ vint w64 n ∷ vbool s ∷ []) _ $
         alloc1 ! (λ l₀. alloc1 ! (λ l₁. alloc1 ! (λ l₂. alloc1 ! (λ l₃. alloc1 ! (λ l₄. alloc1 ! (λ l₅. alloc1 ! (λ l₆. alloc0 ! $
         params1 ! $ pass1 ! (init ! 10 refl (tt, tt)) $ pass1 ! (init ! 8 refl (tt, record { fits = fits })) $ pass1 ! (init ! 6 refl (tt, tt)) $ pass0 ! $
-        -- [_6; …; _5; …; _4; …; _3; …; _2; …; _1; …; room for _0; …; obs; the borrow; the token; the other parameters]
+        -- [_6; …; _5; …; _4; …; _3; …; _2; …; _1; …; room for _0; …; obs; the borrow; the token; the other
+        -- parameters]
         move ! (14 ∷ 15 ∷ 16 ∷ []) $ opened ! tt b o h (λ was.
-        -- [the clock's cell; what a Clock owns; the open borrow; obs; auth; _6; …; _5; …; _4; …; _3; …; _2; …; _1; …; _0; …; the other parameters]
+        -- [the clock's cell; what a Clock owns; the open borrow; obs; auth; _6; …; _5; …; _4; …; _3; …; _2;
+        -- …; _1; …; _0; …; the other parameters]
         assigns ! (of-opd ! (load ! (from ! (hop ! (look ! 15 refl) (stop !))) (look-raw ! 0 refl))) (from ! (stop !)) (init ! 7 refl (L.lawful T.the-type T′.the-laws 𝓤 H A W .typed h _ was .0)) $
         move ! (1 ∷ 19 ∷ []) $ use2 W (raw (Callee 𝓤 H A at-mem run .pre asked)) goes-in $
         calls-at ! fm (Callee 𝓤 H A at-mem run) known asked (and-then ! (load ! (from ! (stop !)) (look ! 7 refl)) (and-then ! (load ! (from ! (stop !)) (look ! 13 refl)) (and-then ! (load ! (from ! (stop !)) (look ! 11 refl)) (no-more !)))) (λ v.

@@ -101,7 +101,8 @@ module _ {M : Type 1} (𝓤 : URA M) (H : Heap 𝓤) (A : Atoms 𝓤) (W : Given
         alloc1 ! (λ l₀. alloc1 ! (λ l₁. alloc1 ! (λ l₂. alloc1 ! (λ l₃. alloc1 ! (λ l₄. alloc0 ! $ params1 ! $ pass1 ! (init ! 6 refl (tt, tt)) $ pass0 ! $
         -- [_4; …; _3; …; _2; …; _1; …; room for _0; …; obs; the borrow; the token]
         move ! (10 ∷ 11 ∷ 12 ∷ []) $ opened ! tt b o h (λ was.
-        -- [the clock's cell; what a Clock owns; the open borrow; obs; auth; _4; …; _3; …; _2; …; _1; …; _0; …]
+        -- [the clock's cell; what a Clock owns; the open borrow; obs; auth; _4; …; _3; …; _2; …; _1; …; _0;
+        -- …]
         assigns ! (of-opd ! (load ! (from ! (hop ! (look ! 11 refl) (stop !))) (look-raw ! 0 refl))) (from ! (stop !)) (init ! 7 refl (L.lawful T.the-type T′.the-laws 𝓤 H A W .typed h _ was .0)) $
         move ! (1 ∷ []) $ use1 W (raw (Tick 𝓤 H A at-mem run .pre to-tick)) goes-tick $
         calls-at ! fm (Tick 𝓤 H A at-mem run) known to-tick (and-then ! (load ! (from ! (stop !)) (look ! 7 refl)) (no-more !)) (λ v.

@@ -1,6 +1,6 @@
--- `heukelvos_rig::rig_event::heukelvos_event_at`: a walk of its MIR. Where the call is refused, the table is given up as it came; else it is
--- opened, the clock at the place is copied out and passed to the event by value, and where that is accepted the clock of the answer is stored
--- in its place.
+-- `heukelvos_rig::rig_event::heukelvos_event_at`: a walk of its MIR. Where the call is refused, the table is
+-- given up as it came; else it is opened, the clock at the place is copied out and passed to the event by
+-- value, and where that is accepted the clock of the answer is stored in its place.
 use mathlib.Core.Path.{_≡_, refl, sym, _∙_, ap, subst}
 use mathlib.Core.Bool.{Bool, true, false, not}
 use Prim.Native.Nat.{ℕ, _<_, _^_, _*_}
@@ -164,7 +164,8 @@ PartedTy = R′.mir
 abbrev ClockTy : Ty
 ClockTy = T′.mir
 
--- a return with eleven locals, of which all but the last are written: the last one's room was not used, or is given back
+-- a return with eleven locals, of which all but the last are written: the last one's room was not used, or is
+-- given back
 module _ {M : Type 1} {𝓤 : URA M} {H : Heap 𝓤} {A : Atoms 𝓤} (W : Given 𝓤 H A) (C : Calls 𝓤 H) (Λ : Loops 𝓤 H) (τ₀ τ₁ τ₂ τ₃ τ₄ τ₅ τ₆ τ₇ τ₈ τ₉ τ₁₀ : Ty) (l₀ l₁ l₂ l₃ l₄ l₅ l₆ l₇ l₈ l₉ l₁₀ : ℕ) where
   abbrev Locals : Env 𝓤 H
   Locals = (τ₀, l₀) ∷ (τ₁, l₁) ∷ (τ₂, l₂) ∷ (τ₃, l₃) ∷ (τ₄, l₄) ∷ (τ₅, l₅) ∷ (τ₆, l₆) ∷ (τ₇, l₇) ∷ (τ₈, l₈) ∷ (τ₉, l₉) ∷ (τ₁₀, l₁₀) ∷ []

@@ -1,4 +1,5 @@
--- `label::text::date_text` meets its contract: its pairs are the century, the year in it, the month and the day.
+-- `label::text::date_text` meets its contract: its pairs are the century, the year in it, the month and the
+-- day.
 use mathlib.Core.Path.{_≡_}
 use Prim.Native.Nat.{_*_, _-_, _/_, _%_}
 use native.Mathlib.Omega.{arith}

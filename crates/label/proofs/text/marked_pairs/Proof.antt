@@ -1,4 +1,5 @@
--- `label::text::marked_pairs` meets its contract: the word that it works out has the digits and the marks in its bytes.
+-- `label::text::marked_pairs` meets its contract: the word that it works out has the digits and the marks in
+-- its bytes.
 use mathlib.Core.Path.{refl}
 use borrow.Author.Needs.{needs}
 use Rattle.label.proofs.Words.{bytes-of-word}

@@ -1,4 +1,5 @@
--- `label::text::put_label` meets its contract: the date stands in the first eleven bytes, the time in the next nine.
+-- `label::text::put_label` meets its contract: the date stands in the first eleven bytes, the time in the
+-- next nine.
 use Prim.Native.Nat.{_/_, _%_}
 use borrow.Author.Needs.{needs}
 use lib.ListN.{drop}

@@ -1,4 +1,5 @@
--- `number::read_long` meets its contract: each answer by the laws of the bytes that were read on the way there.
+-- `number::read_long` meets its contract: each answer by the laws of the bytes that were read on the way
+-- there.
 use mathlib.Core.Path.{_≡_, refl, sym, _∙_, ap}
 use mathlib.Core.List.{List}
 use Prim.Native.Nat.{ℕ, zero, suc, _+_, _*_, _-_, _%_, _<_, _≤_}

@@ -1,5 +1,5 @@
--- `number::fit_in` meets its contract. The loop's invariant: what the numbers passed take is gone from the room. The measure is the
--- numbers left.
+-- `number::fit_in` meets its contract. The loop's invariant: what the numbers passed take is gone from the
+-- room. The measure is the numbers left.
 use mathlib.Core.Path.{_≡_, sym, ap}
 use Prim.Native.Nat.{_+_, _-_, _≤_}
 use native.Mathlib.Omega.{arith}

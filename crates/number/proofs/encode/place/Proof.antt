@@ -1,5 +1,5 @@
--- `number::place` meets its contract. The loop's invariant: the stores still to be made, on the buffer as it is, are those of the
--- whole number on the buffer as it was. The measure is the rest of the number.
+-- `number::place` meets its contract. The loop's invariant: the stores still to be made, on the buffer as it
+-- is, are those of the whole number on the buffer as it was. The measure is the rest of the number.
 use mathlib.Core.Path.{_≡_, sym, _∙_}
 use Prim.Native.Nat.{_+_, _/_, _<_, _^_}
 use native.Mathlib.Omega.{arith}

@@ -1,5 +1,5 @@
--- `number::place_all` meets its contract. The loop's invariant: the stores still to be made, on the buffer as it is, are those of
--- all the numbers on the buffer as it was. The measure is the numbers left.
+-- `number::place_all` meets its contract. The loop's invariant: the stores still to be made, on the buffer as
+-- it is, are those of all the numbers on the buffer as it was. The measure is the numbers left.
 use mathlib.Core.Path.{_≡_, sym, _∙_, ap}
 use Prim.Native.Nat.{_+_, _-_, _≤_, _<_}
 use native.Mathlib.Omega.{arith}

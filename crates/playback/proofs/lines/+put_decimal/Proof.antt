@@ -1,4 +1,5 @@
--- The proof of `playback::put_decimal`, which calls itself for the digits before the last. The measure is the number.
+-- The proof of `playback::put_decimal`, which calls itself for the digits before the last. The measure is the
+-- number.
 use mathlib.Core.Path.{sym, _∙_, ap}
 use mathlib.Core.List.{[], _∷_, _++_}
 use Prim.Native.Nat.{ℕ, _/_, _<_}

@@ -1,4 +1,5 @@
--- `playback::advance` meets its contract: where there is no event the run is finished; undecodable bytes end it; an event is run.
+-- `playback::advance` meets its contract: where there is no event the run is finished; undecodable bytes end
+-- it; an event is run.
 use mathlib.Core.Path.{refl, sym, _∙_, ap}
 use Prim.Native.Nat.{_<_, _≤_}
 use native.Mathlib.Omega.{arith}

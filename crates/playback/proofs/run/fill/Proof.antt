@@ -1,5 +1,5 @@
--- `playback::fill` meets its contract. The loop's invariant: the run stands after some steps from where it stood at first, and the buffer has
--- their lines. The measure is what is left to run.
+-- `playback::fill` meets its contract. The loop's invariant: the run stands after some steps from where it
+-- stood at first, and the buffer has their lines. The measure is what is left to run.
 use mathlib.Core.Path.{_≡_}
 use mathlib.Core.Bool.{false, not}
 use Prim.Native.Nat.{_+_, _-_, _≤_}

@@ -1,4 +1,5 @@
--- `playback::finish` meets its contract: a history that is too long is told, and the end of the bytes prints nothing.
+-- `playback::finish` meets its contract: a history that is too long is told, and the end of the bytes prints
+-- nothing.
 use native.Mathlib.Omega.{arith}
 use borrow.Author.Tests.{le-ltb, leb-true}
 use Rattle.playback.specs.Run.{longestHistory}

@@ -1,4 +1,5 @@
--- `playback::run_call` meets its contract: the line of an accepted reading, which is a print, or that of a refusal.
+-- `playback::run_call` meets its contract: the line of an accepted reading, which is a print, or that of a
+-- refusal.
 use mathlib.Core.Path.{_≡_, sym, _∙_, ap}
 use mathlib.Core.Bool.{true}
 use native.Mathlib.Omega.{arith}

@@ -1,4 +1,5 @@
--- `record::since` meets its contract: from the first version on a plain field, and else 0, with no byte taken.
+-- `record::since` meets its contract: from the first version on a plain field, and else 0, with no byte
+-- taken.
 use borrow.Author.Tests.{le-leb, lt-leb}
 use mathlib.Core.Path.{sym, _∙_}
 use Rattle.record.proofs.field.since.Statement.{statement}

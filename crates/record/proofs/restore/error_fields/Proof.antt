@@ -1,5 +1,5 @@
--- `record::error_fields` meets its contract. Before each field a law says where the reading stands; a field that was read takes
--- it to the next, and one that was refused ends it.
+-- `record::error_fields` meets its contract. Before each field a law says where the reading stands; a field
+-- that was read takes it to the next, and one that was refused ends it.
 use borrow.Author.Needs.{needs}
 use mathlib.Core.Path.{_≡_, refl, sym, _∙_, ap}
 use mathlib.Core.List.{List}

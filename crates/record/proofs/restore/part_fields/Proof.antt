@@ -1,5 +1,5 @@
--- `record::part_fields` meets its contract. Before each field a law says where the reading stands; a field that was read takes
--- it to the next, and one that was refused ends it.
+-- `record::part_fields` meets its contract. Before each field a law says where the reading stands; a field
+-- that was read takes it to the next, and one that was refused ends it.
 use mathlib.Core.Path.{_≡_, refl, sym, _∙_, ap}
 use mathlib.Core.List.{List}
 use Prim.Native.Nat.{ℕ}

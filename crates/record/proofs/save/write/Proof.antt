@@ -1,4 +1,5 @@
--- `record::write` meets its contract: the record is written into a text of its own, and copied where there is room for it.
+-- `record::write` meets its contract: the record is written into a text of its own, and copied where there is
+-- room for it.
 use borrow.Author.Needs.{needs}
 use borrow.Author.Tests.{not-true, not-false}
 use mathlib.Core.Path.{_≡_, refl, sym, _∙_, ap}

@@ -1,4 +1,5 @@
--- `request::effects::frequency_after`: the gain, on the frequency and the time constant that the request wrote.
+-- `request::effects::frequency_after`: the gain, on the frequency and the time constant that the request
+-- wrote.
 use borrow.Author.Needs.{needs}
 use mathlib.Core.Bool.{true}
 use mathlib.Core.Path.{_≡_, sym, _∙_}

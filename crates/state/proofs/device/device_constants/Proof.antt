@@ -1,4 +1,5 @@
--- `state::device_constants`: the constants of the kind with its refusal; the numbers of the two kinds are computed.
+-- `state::device_constants`: the constants of the kind with its refusal; the numbers of the two kinds are
+-- computed.
 use borrow.Author.Needs.{needs}
 use borrow.Author.Tests.{leb-true, leb-false, lt-ltb, le-ltb}
 use mathlib.Core.Path.{_≡_, refl}

@@ -1,4 +1,5 @@
--- `state::state::first_fields_in_range`: the tests are those of the table, read as signed numbers where the fields are.
+-- `state::state::first_fields_in_range`: the tests are those of the table, read as signed numbers where the
+-- fields are.
 use borrow.Author.Needs.{needs}
 use mathlib.Core.Path.{_≡_}
 use mir.Facts.{toZ-ofZ}
