@@ -5,7 +5,7 @@ use mathlib.Core.List.{List}
 use Prim.Native.Nat.{ℕ, suc, _+_, _*_}
 use lib.Dec.{leb, ltb, eqb}
 use lib.ListN.{length, getD, take, drop}
-use Rattle.state.specs.Refusal.{refusedEnded, refusedForm, refusedField}
+use Rattle.state.specs.Refusal.{refusedEnded, refusedForm}
 use Rattle.number.specs.Reading.{Found, number, refused, leadingMore, valueOf}
 
 -- as `judged`, after a byte that says more: `left` bytes may still be read, and a last byte of 0 is not the
@@ -33,5 +33,5 @@ endedOf value unit next = cond (ltb value unit) (refused refusedForm) (number va
 -- The answer of a reading that a refusal ends. No reading ends with a number, so that the case of one is
 -- never reached: it refuses too, with 12.
 abbrev pub refusedAs : {A : Type 0} → (ℕ → A) → Found → A
-refusedAs ends (number value next) = ends refusedField
+refusedAs ends (number value next) = ends 12
 refusedAs ends (refused refusal) = ends refusal

@@ -2,14 +2,10 @@
 use mathlib.Core.Path.{_≡_, ap}
 use mathlib.Core.Bool.{false}
 use mathlib.Core.List.{List}
-use Prim.Native.Nat.{ℕ, _≤_}
-use native.Mathlib.Omega.{arith}
-use lib.Dec.{eqb, leb}
+use Prim.Native.Nat.{ℕ}
+use lib.Dec.{eqb}
 use lib.ListN.{length, getD}
-use borrow.Author.Tests.{leb-false, eqb-false}
-
-pub not-most : {a b : ℕ} → leb a b ≡ false → a ≤ b → ⊥
-not-most {a} {b} e h = omega (arith, leb-false a b e)
+use borrow.Author.Tests.{eqb-false}
 
 pub not-same : {a b : ℕ} → eqb a b ≡ false → a ≡ b → ⊥
 not-same {a} {b} e h = eqb-false a b e h

@@ -19,7 +19,7 @@ use Rattle.number.specs.Sequence.{then}
 use Rattle.label.specs.Label.{labelOf}
 use Rattle.event.specs.declared.event.Call.the-variants.{Tick, Reading}
 use Rattle.event.specs.declared.event.Event.the-variants.{Call as single}
-use Rattle.bounds.specs.Calls.{afterBy, countAmong, noneAmong}
+use Rattle.bounds.specs.Calls.{afterBy, countAmongBy, noneAmongBy}
 use Rattle.bounds.specs.Singly.{singleTicks, singlyFrom, asEvents}
 use Rattle.bounds.specs.Measure.{measureOf}
 use Rattle.history.specs.Event.{ticksAt, argumentsAt, eventAt}
@@ -28,7 +28,8 @@ use Rattle.playback.specs.Event.{outcomeOf}
 use Rattle.playback.specs.Run.{step, runAfter}
 use Rattle.playback.specs.Calls.{Replayer, PrintAt, callsFrom, callsOfFirst}
 use Rattle.playback.specs.WrongReplays.{printBetween, WrongReplays}
-use Rattle.playback.proofs.Apart.{not-most, not-same, byte-apart}
+use Rattle.bounds.proofs.ShutOut.{not-most}
+use Rattle.playback.proofs.Apart.{not-same, byte-apart}
 
 micros-apart : {a b : Clock} → eqb (a .micros .0) (b .micros .0) ≡ false → a ≡ b → ⊥
 micros-apart e h = not-same e (ap (λ (c : Clock). c .micros .0) h)
@@ -45,7 +46,7 @@ print-at x going place = record { fits = omega arith; going = going; next = 3; p
 pub wrong-replays : WrongReplays
 unfolding deviceOf measureOf dateOf inRange rolledOver unitIn ticked tickRefusal tickOf readingRefusal
     toldOf ranOf ticksOf leadingMore valueOf judged numberAt then ticksAt argumentsAt eventAt labelOf
-    decimalFrom decimal printLine outcomeOf step runAfter afterBy countAmong noneAmong singleTicks singlyFrom
+    decimalFrom decimal printLine outcomeOf step runAfter afterBy countAmongBy noneAmongBy singleTicks singlyFrom
     asEvents callsFrom callsOfFirst
 wrong-replays =
     record {

@@ -24,7 +24,8 @@ use Rattle.playback.specs.declared.run.Run.{Run}
 use Rattle.playback.specs.declared.run.Filling.{Filling}
 use Rattle.playback.proofs.OneFill.{one-fill}
 use Rattle.playback.proofs.OnePrint.{first-call, second-call, one-step}
-use Rattle.playback.proofs.Apart.{not-most, not-same, length-apart, byte-apart}
+use Rattle.bounds.proofs.ShutOut.{not-most}
+use Rattle.playback.proofs.Apart.{not-same, length-apart, byte-apart}
 
 ended-apart : {a b : Run} → a .ended ≡ true → b .ended ≡ false → a ≡ b → ⊥
 ended-apart t f e = true≢false (cc)

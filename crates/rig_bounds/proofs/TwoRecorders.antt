@@ -10,7 +10,7 @@ use Rattle.clock.specs.Tick.{unitIn, ticked, tickRefusal, tickOf}
 use Rattle.clock.specs.Setting.{settingRefusal, settingOf}
 use Rattle.event.specs.declared.event.Call.the-variants.{Tick}
 use Rattle.event.specs.declared.event.Event.the-variants.{Call}
-use Rattle.bounds.specs.Calls.{afterBy, countAmong, noneAmong}
+use Rattle.bounds.specs.Calls.{afterBy, countAmongBy, noneAmongBy}
 use Rattle.bounds.specs.Singly.{singlyFrom}
 use Rattle.bounds.specs.Measure.{measureOf}
 use Rattle.rig.specs.Rig.{answerAt, tableAt}
@@ -32,7 +32,7 @@ first =
     demand3-of-rig .set (freshClock kind256) (seenAt 0) (one-table 0 both inTurn (omega arith)) 5 _ (Call Tick ∷ []) refl refl
 
 pub of-two-recorders : OfTwoRecorders
-unfolding deviceOf measureOf inRange toldOf readingRefusal unitIn ticked tickRefusal tickOf settingRefusal settingOf answerAt tableAt afterBy countAmong noneAmong singlyFrom ownEvents callsInTurn tableFrom
+unfolding deviceOf measureOf inRange toldOf readingRefusal unitIn ticked tickRefusal tickOf settingRefusal settingOf answerAt tableAt afterBy countAmongBy noneAmongBy singlyFrom ownEvents callsInTurn tableFrom
 of-two-recorders =
     record {
       demand = second .demand .third [] (Call Tick ∷ []) [] refl refl;
