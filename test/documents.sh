@@ -3,8 +3,6 @@
 
 # Prose is at most so many columns wide.
 widest=120
-# Documents whose prose is not yet.
-wide_ones='CONTRIBUTING.md docs/DECISIONS.md docs/LANDINGS.md docs/PROMISES.md'
 
 # The lines of prose that are too wide: neither a row of a table, nor code, nor a line that is one link. A character
 # counts once, however many bytes it has.
@@ -20,7 +18,7 @@ too_wide() { # FILE
 
 # Every fault of a document, with its line.
 faults() { # FILE
-    case " $wide_ones " in *" $1 "*) ;; *) too_wide "$1" ;; esac
+    too_wide "$1"
     grep -nE -e '^[[:space:]]*[A-Z_]{2,}[[:space:]]*$' -e 'TODO|FIXME|XXX' -e '(^|[^[:alnum:]_.])/(work|tmp|opt|home)(/|[^[:alnum:]_]|$)' "$1"
     # A relative link, without the place in the file.
     grep -oE '\]\([^)]+\)' "$1" | sed -e 's/^](//' -e 's/)$//' -e 's/#.*//' | while IFS= read -r link; do

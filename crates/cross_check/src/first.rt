@@ -224,6 +224,16 @@ fn same_limits() -> bool {
     same & (u.second == 1000000) & (u.day == 86400)
 }
 
+// The numbers of the refusals, in the order of documents 01 and 02.
+fn same_refusals() -> bool {
+    let r = clock::refusal_numbers();
+    let mut same = (r.state == 1) & (r.time == 2) & (r.last == 3) & (r.mode == 4);
+    same = same & (r.offset == 5) & (r.frequency == 6) & (r.error == 7) & (r.status == 8);
+    same = same & (r.constant == 9) & (r.ended == 10) & (r.form == 11) & (r.field == 12);
+    same = same & (r.beyond == 13) & (r.room == 14) & (r.label == 15) & (r.ceiling == 16);
+    same & (r.soon == 17) & (r.place == 18) & (r.table == 19)
+}
+
 // The bits of a mode.
 fn same_bits() -> bool {
     let m = request::mode_bits();
@@ -250,7 +260,7 @@ fn same_kinds() -> bool {
 pub(crate) fn same_start(kind: u64, a: Answer) -> bool {
     let o = clock::fresh(byte(kind));
     let d = clock::device_constants(byte(kind));
-    let mut same = same_limits() & same_bits() & same_kinds();
+    let mut same = same_limits() & same_refusals() & same_bits() & same_kinds();
     same = same & same_byte(a.refusal, o.refusal) & same_clock(a.state, o.clock);
     same & same_byte(a.refusal, d.refusal) & same_device(a.state.kind, d.device)
 }

@@ -1,6 +1,6 @@
 -- Answers that the statements about runs shut out, each at a short history: what a call of `fill` may not
--- answer, what repeated calls may not come to. Each meets all that is stated but for the field that it stands
--- for.
+-- answer, what repeated calls may not come to. Each is named for the field that it breaks; a few break a second
+-- one with it.
 use mathlib.Core.Bool.{true, false}
 use mathlib.Core.List.{List, [], _∷_, _++_}
 use Prim.Native.Nat.{ℕ, _<_}
