@@ -29,19 +29,19 @@ pub struct Counted {
     pub tick_refusal: u8,
 }
 
-struct Parted {
+struct CountedClock {
     answer: Counted,
     clock: Clock,
 }
 
 // A catch-up by value, its answer apart from the clock; it takes no reference, so that only the lent clock is
 // left to a proof by hand.
-fn caught_up(c: Clock, ceiling: u64, stop: bool) -> Parted
+fn caught_up(c: Clock, ceiling: u64, stop: bool) -> CountedClock
     ensures { λ r. ⌜ r ≡ parted (catchUpOf c ceiling stop) ⌝ }
 {
     let r = clock::catch_up(c, ceiling, stop);
     let next = r.clock;
-    Parted {
+    CountedClock {
         answer: Counted {
             refusal: r.refusal,
             count: r.count,

@@ -20,7 +20,7 @@ use Rattle.calendar.specs.declared.Found.the-variants.{Day, NoDay}
 use Rattle.calendar.specs.Calendar.{dateOf, days}
 use Rattle.calendar.specs.Search.{FoundAs, found, none}
 use Rattle.calendar.proofs.Dates.{one-day, same-parts}
-use Rattle.label.specs.declared.fields.Time.the-variants.{At, NoTime}
+use Rattle.label.specs.declared.fields.DayTime.the-variants.{At, NoTime}
 use Rattle.label.specs.Label.{labelOf, isSixty, labelSize}
 use Rattle.label.specs.Reading.{label, noLabel, WrittenFor, ReadsAs, accepted, refused}
 use Rattle.label.specs.Inner.{pairAt, isMarked, dateAt, AlikeDate, ShownBy, shown, unshown}

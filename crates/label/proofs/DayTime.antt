@@ -9,8 +9,8 @@ use borrow.Author.Tests.{eqb-true, eq-eqb, leb-false, lt-leb}
 use lib.Dec.{eqb, leb}
 use Rattle.integers.proofs.Ranges.{and-true}
 use Rattle.state.specs.Units.{lastSecondOfDay}
-use Rattle.label.specs.declared.fields.Time.{Time}
-use Rattle.label.specs.declared.fields.Time.the-variants.{At, NoTime}
+use Rattle.label.specs.declared.fields.DayTime.{DayTime}
+use Rattle.label.specs.declared.fields.DayTime.the-variants.{At, NoTime}
 use Rattle.label.specs.Inner.{Alike, Shows, ShownBy, shown, unshown}
 use Rattle.label.specs.Label.{secondsPerMinute, minutesPerHour, hoursPerDay, secondsPerHour, insertedSecond}
 use Rattle.label.proofs.Digits.{alike-small, small-alike}
@@ -55,7 +55,7 @@ module _ {t h m s : ℕ} {sixty : Bool} (w : Shows t sixty h m s) where
   shows-of p q r =
       record { within = w .within; last = w .last; hour = sym p ∙ w .hour; minute = sym q ∙ w .minute; second = sym r ∙ w .second }
 
-pub shown-alike : {h h′ m m′ s s′ : ℕ} {r : Time} → Alike h h′ → Alike m m′ → Alike s s′ → ShownBy h m s r → ShownBy h′ m′ s′ r
+pub shown-alike : {h h′ m m′ s s′ : ℕ} {r : DayTime} → Alike h h′ → Alike m m′ → Alike s s′ → ShownBy h m s r → ShownBy h′ m′ s′ r
 shown-alike p q r (shown w) =
     shown (shows-of w (alike-small p (hour-small w)) (alike-small q (minute-small w)) (alike-small r (seconds-small w)))
 shown-alike p q r (unshown f) = unshown (λ t sixty w.

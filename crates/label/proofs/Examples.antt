@@ -10,7 +10,7 @@ use Rattle.state.specs.State.{lastSecond}
 use Rattle.state.specs.declared.state.Clock.{Clock}
 use Rattle.calendar.proofs.Dates.{on, one-day}
 use Rattle.calendar.proofs.Closed.{date-right}
-use Rattle.label.specs.declared.Answer.{Answer}
+use Rattle.label.specs.declared.UtcSecond.{UtcSecond}
 use Rattle.label.specs.Inner.{Shows, pairOf, pairAt, dateAt}
 use Rattle.label.specs.Label.{labelOf, isSixty, clockLabel}
 use Rattle.label.specs.Properties.{leapDay, lastLabel, onePast, inserted, noSixty, Labels, ShutOut}
@@ -43,7 +43,7 @@ inserted-read = accepts lastSecondOfDay true (omega arith) (λ _. refl) inserted
 
 -- ---- 7 February 2106 has no label past 06:28:15
 
-past-end : (text : List ℕ) (r : Answer) (t : ℕ) (sixty : Bool) → dateAt text ≡ on 2106 2 7
+past-end : (text : List ℕ) (r : UtcSecond) (t : ℕ) (sixty : Bool) → dateAt text ≡ on 2106 2 7
     → Shows t sixty (pairAt text 11) (pairAt text 14) (pairAt text 17) → lastDayEnd < t → ReadsAs text r → r ≡ noLabel
 past-end text r t sixty d w late a =
     one-answer text r noLabel a (refused (λ c w′.
@@ -91,7 +91,7 @@ shut-out =
     record {
       several =
           λ h.
-          let z : _≡_ {A = ℕ} 15 0 = ap (λ (r : Answer). r .refusal) (h [] noLabel (label 0 false) tt tt) in
+          let z : _≡_ {A = ℕ} 15 0 = ap (λ (r : UtcSecond). r .refusal) (h [] noLabel (label 0 false) tt tt) in
           absurd (omega arith);
       accepting = λ h. let w = h [] (label 0 false) refl .0 refl in absurd (omega (arith, clock-says (w .1) .long));
       refusing =
@@ -101,7 +101,7 @@ shut-out =
       unread =
           λ h.
           let e = h first inserted (label lastSecondOfDay true) (room 0 (omega arith)) inserted-read in
-          let z : lastSecondOfDay ≡ 0 = ap (λ (r : Answer). r .seconds) e in
+          let z : lastSecondOfDay ≡ 0 = ap (λ (r : UtcSecond). r .seconds) e in
           absurd (omega arith);
       unwritten =
           λ h.

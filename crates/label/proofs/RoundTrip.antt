@@ -11,7 +11,7 @@ use lib.Seq.{take-at}
 use Rattle.state.specs.declared.state.Clock.{Clock}
 use Rattle.state.specs.Units.{secondsPerDay}
 use Rattle.calendar.proofs.Dates.{one-day}
-use Rattle.label.specs.declared.Answer.{Answer}
+use Rattle.label.specs.declared.UtcSecond.{UtcSecond}
 use Rattle.label.specs.Label.{labelOf, isSixty, clockLabel, labelSize}
 use Rattle.label.specs.Writing.{writeRefusal, writtenTo}
 use Rattle.label.specs.Properties.{OneAnswer, ReadsWritten, WritesRead, AcceptedIff}
@@ -33,7 +33,7 @@ same-second {c} {c′} w w′ =
     let time = shown-once (says .time) (says′ .time) in
     (omega (arith, day, time .0), time .1)
 
-both : {text : List ℕ} {r r′ : Answer} → ReadsAs text r → ReadsAs text r′ → r ≡ r′
+both : {text : List ℕ} {r r′ : UtcSecond} → ReadsAs text r → ReadsAs text r′ → r ≡ r′
 both (accepted w) (accepted w′) = let e = same-second w w′ in cc
 both (accepted w) (refused f) = absurd (f _ w)
 both (refused f) (accepted w) = absurd (f _ w)
@@ -60,7 +60,7 @@ write-read text s sixty c out (accepted {c = d} w) p q e =
 
 -- ---- the strings that are accepted
 
-iff : {text : List ℕ} {r : Answer} → ReadsAs text r → (r .refusal ≡ 0) ↔ ((c : Clock) × WrittenFor c text)
+iff : {text : List ℕ} {r : UtcSecond} → ReadsAs text r → (r .refusal ≡ 0) ↔ ((c : Clock) × WrittenFor c text)
 iff (accepted {c} w) = ((λ _. (c, w)), (λ _. refl))
 iff (refused f) = ((λ e. absurd (omega arith)), (λ p. absurd (f (p .0) (p .1))))
 

@@ -8,8 +8,8 @@ use lib.ListN.{getD}
 use Rattle.state.specs.Units.{secondsPerDay, lastSecondOfDay}
 use Rattle.calendar.specs.declared.Date.{Date}
 use Rattle.label.specs.Label.{digitZero, hyphen, letterT, colon, letterZ, two, four, secondsPerMinute, minutesPerHour, secondsPerHour, insertedSecond}
-use Rattle.label.specs.declared.fields.Time.{Time}
-use Rattle.label.specs.declared.fields.Time.the-variants.{At, NoTime}
+use Rattle.label.specs.declared.fields.DayTime.{DayTime}
+use Rattle.label.specs.declared.fields.DayTime.the-variants.{At, NoTime}
 
 -- ---- the writer
 
@@ -69,6 +69,6 @@ pub record Shows (t : ℕ) (sixty : Bool) (h m s : ℕ) : Type 0 where
   pub second : s ≡ cond sixty insertedSecond (t % secondsPerMinute)
 
 -- the second of the day that shows this hour, minute and second, or that none does
-pub data ShownBy (h m s : ℕ) : Time → Type 0 where
+pub data ShownBy (h m s : ℕ) : DayTime → Type 0 where
   shown : {t : ℕ} {sixty : Bool} → Shows t sixty h m s → ShownBy h m s (At t sixty)
   unshown : ((t : ℕ) (sixty : Bool) → Shows t sixty h m s → ⊥) → ShownBy h m s NoTime

@@ -8,30 +8,30 @@ use mathlib.Core.Logic.{_↔_}
 use Prim.Native.Nat.{ℕ}
 use lib.ListN.{take, drop}
 use Rattle.state.specs.declared.state.Clock.{Clock}
-use Rattle.label.specs.declared.Answer.{Answer}
+use Rattle.label.specs.declared.UtcSecond.{UtcSecond}
 use Rattle.label.specs.Label.{labelSize, isSixty}
 use Rattle.label.specs.Writing.{writeRefusal}
 use Rattle.label.specs.Reading.{label, noLabel, WrittenFor, ReadsAs}
 
 abbrev pub Reader : Type 1
-Reader = List ℕ → Answer → Type 0
+Reader = List ℕ → UtcSecond → Type 0
 
 abbrev pub Writer : Type 0
 Writer = Clock → List ℕ → List ℕ
 
 -- the reader has one answer
 abbrev pub OneAnswer : Reader → Type 0
-OneAnswer reads = (text : List ℕ) (r r′ : Answer) → reads text r → reads text r′ → r ≡ r′
+OneAnswer reads = (text : List ℕ) (r r′ : UtcSecond) → reads text r → reads text r′ → r ≡ r′
 
 -- "The reader accepts exactly the strings of twenty bytes that the writer can write"
 abbrev pub AcceptedIff : Reader → Type 0
 AcceptedIff reads =
-    (text : List ℕ) (r : Answer) → reads text r → (r .refusal ≡ 0) ↔ ((c : Clock) × WrittenFor c text)
+    (text : List ℕ) (r : UtcSecond) → reads text r → (r .refusal ≡ 0) ↔ ((c : Clock) × WrittenFor c text)
 
 -- what was written is read: the second, and whether it was a 60
 abbrev pub ReadsWritten : Writer → Type 0
 ReadsWritten write =
-    (c : Clock) (out : List ℕ) (r : Answer) → writeRefusal c out ≡ 0
+    (c : Clock) (out : List ℕ) (r : UtcSecond) → writeRefusal c out ≡ 0
     → ReadsAs (take labelSize (write c out)) r
     → r ≡ label (c .seconds) (isSixty c)
 
@@ -96,8 +96,8 @@ noSixty =
 
 -- how each is read
 pub record Labels (reads : Reader) : Type 0 where
-  pub leap : (r : Answer) → reads leapDay r → r ≡ label 951782400 false
-  pub last : (r : Answer) → reads lastLabel r → r ≡ label 4294967295 false
-  pub sixty : (r : Answer) → reads inserted r → r ≡ label 86399 true
-  pub past : (r : Answer) → reads onePast r → r ≡ noLabel
-  pub pastSixty : (r : Answer) → reads noSixty r → r ≡ noLabel
+  pub leap : (r : UtcSecond) → reads leapDay r → r ≡ label 951782400 false
+  pub last : (r : UtcSecond) → reads lastLabel r → r ≡ label 4294967295 false
+  pub sixty : (r : UtcSecond) → reads inserted r → r ≡ label 86399 true
+  pub past : (r : UtcSecond) → reads onePast r → r ≡ noLabel
+  pub pastSixty : (r : UtcSecond) → reads noSixty r → r ≡ noLabel

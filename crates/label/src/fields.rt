@@ -67,38 +67,38 @@ pub(crate) fn date_at(text: &[u8]) -> Date
     }
 }
 
-pub(crate) enum Time {
+pub(crate) enum DayTime {
     // A second of a day, and whether it was shown as the 60 that repeats the last one.
     At { second: u32, sixty: bool },
     NoTime,
 }
 
 // The second of a day that an hour, a minute and a second show.
-fn time_of(hour: u32, minute: u32, second: u32) -> Time
+fn time_of(hour: u32, minute: u32, second: u32) -> DayTime
     ensures { λ r. ⌜ ShownBy hour minute second r ⌝ }
 {
     if (HOURS_PER_DAY <= hour) | (MINUTES_PER_HOUR <= minute) {
-        return Time::NoTime;
+        return DayTime::NoTime;
     }
     let minutes = MINUTES_PER_HOUR * hour + minute;
     if second < SECONDS_PER_MINUTE {
-        return Time::At {
+        return DayTime::At {
             second: SECONDS_PER_MINUTE * minutes + second,
             sixty: false,
         };
     }
     if (second == INSERTED_SECOND) & (minutes == LAST_MINUTE) {
-        Time::At {
+        DayTime::At {
             second: LAST_SECOND_OF_DAY,
             sixty: true,
         }
     } else {
-        Time::NoTime
+        DayTime::NoTime
     }
 }
 
 // The second of a day that the digits say.
-pub(crate) fn time_at(text: &[u8]) -> Time
+pub(crate) fn time_at(text: &[u8]) -> DayTime
     requires { ⌜ length (now text) ≡ labelSize ⌝ }
     ensures { λ r. ⌜ ShownBy (pairAt (now (text .entry)) 11) (pairAt (now (text .entry)) 14) (pairAt (now (text .entry)) 17) r ⌝ }
 {

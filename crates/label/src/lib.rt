@@ -8,7 +8,7 @@ ghost use mathlib.Core.Path.{_≡_};
 ghost use mathlib.Core.Bool.{Bool};
 ghost use Rattle.label.specs.Writing.{writeRefusal, writtenTo, Readable};
 ghost use Rattle.label.specs.Reading.{ReadsAs};
-use crate::fields::Time;
+use crate::fields::DayTime;
 use calendar::Found;
 use state::Clock;
 use state::LAST_SECOND;
@@ -51,23 +51,23 @@ pub fn write(c: Clock, out: &mut [u8]) -> u8
 
 // The answer of `read`: refusal 0 with the second and whether it was a 60, which repeats the 59 before it; or
 // refusal 15 with second 0 and no 60.
-pub struct Answer {
+pub struct UtcSecond {
     pub refusal: u8,
     pub seconds: u32,
     pub sixty: bool,
 }
 
-fn not_a_label() -> Answer
+fn not_a_label() -> UtcSecond
     ensures { λ r. ⌜ r ≡ record { refusal = 15; seconds = 0; sixty = Bool.false } ⌝ }
 {
-    Answer {
+    UtcSecond {
         refusal: REFUSED_LABEL,
         seconds: 0,
         sixty: false,
     }
 }
 
-pub fn read(text: &[u8]) -> Answer
+pub fn read(text: &[u8]) -> UtcSecond
     ensures { λ r. ⌜ ReadsAs (now (text .entry)) r ⌝ }
 {
     if text.len() != SIZE {
@@ -77,7 +77,7 @@ pub fn read(text: &[u8]) -> Answer
         return not_a_label();
     }
     let time = fields::time_at(text);
-    let Time::At { second, sixty } = time else {
+    let DayTime::At { second, sixty } = time else {
         return not_a_label();
     };
     let found = calendar::day_of(fields::date_at(text));
@@ -87,7 +87,7 @@ pub fn read(text: &[u8]) -> Answer
     if (day == LAST_DAY) & (LAST_DAY_END < second) {
         return not_a_label();
     }
-    Answer {
+    UtcSecond {
         refusal: 0,
         seconds: SECONDS_PER_DAY * day + second,
         sixty: sixty,

@@ -42,13 +42,13 @@ use Rattle.clock.specs.Ticks.{catchUpOf}
 use Rattle.state.specs.declared.state.Clock.{Clock}
 use Rattle.heukelvos.specs.Lent.{parted}
 use Rattle.heukelvos.specs.declared.lent.Counted.{Counted}
-use Rattle.heukelvos.specs.declared.lent.Parted.{Parted}
+use Rattle.heukelvos.specs.declared.lent.CountedClock.{CountedClock}
 use Rattle.state.proofs.state.Clock as T
 use Rattle.state.proofs.state.Clock.Laws as T′
 use Rattle.heukelvos.proofs.lent.Counted as N
 use Rattle.heukelvos.proofs.lent.Counted.Laws as N′
-use Rattle.heukelvos.proofs.lent.Parted as R
-use Rattle.heukelvos.proofs.lent.Parted.Laws as R′
+use Rattle.heukelvos.proofs.lent.CountedClock as R
+use Rattle.heukelvos.proofs.lent.CountedClock.Laws as R′
 use Rattle.heukelvos.proofs.lent.caught_up as callee
 use Rattle.heukelvos.proofs.lent.caught_up.Symbol as callee-def
 use Rattle.heukelvos.proofs.lent.caught_up.Symbol.{name as #callee}
@@ -75,17 +75,17 @@ told n = L.val N.the-type N′.the-laws n
 abbrev IsCounted : Counted → Type 0
 IsCounted n = Is N.the-row n (told n ∷ [])
 
-in-clock : (r : Parted) (v : Val) → Is R.the-row r (v ∷ []) → IsClock (r .clock)
+in-clock : (r : CountedClock) (v : Val) → Is R.the-row r (v ∷ []) → IsClock (r .clock)
 in-clock r v is = L.owed R.the-type R′.the-laws r (v ∷ []) is .1 .0
 
-in-answer : (r : Parted) (v : Val) → Is R.the-row r (v ∷ []) → IsCounted (r .answer)
+in-answer : (r : CountedClock) (v : Val) → Is R.the-row r (v ∷ []) → IsCounted (r .answer)
 in-answer r v is = L.owed R.the-type R′.the-laws r (v ∷ []) is .0
 
-as-it-was : (h : Clock) (n : ℕ) (s : Bool) (r : Parted) → r ≡ parted (catchUpOf h n s) → eqb (r .answer .refusal) 0 ≡ false → r .clock ≡ h
-as-it-was h n s r e = subst (λ (t : Parted). eqb (t .answer .refusal) 0 ≡ false → t .clock ≡ h) (sym e) (catch-up-same h n s)
+as-it-was : (h : Clock) (n : ℕ) (s : Bool) (r : CountedClock) → r ≡ parted (catchUpOf h n s) → eqb (r .answer .refusal) 0 ≡ false → r .clock ≡ h
+as-it-was h n s r e = subst (λ (t : CountedClock). eqb (t .answer .refusal) 0 ≡ false → t .clock ≡ h) (sym e) (catch-up-same h n s)
 
 -- what the lent clock then holds
-abbrev held : Clock → Parted → Clock
+abbrev held : Clock → CountedClock → Clock
 held h r = cond (eqb (r .answer .refusal) 0) (r .clock) h
 
 module _ {M : Type 1} (𝓤 : URA M) (H : Heap 𝓤) (A : Atoms 𝓤) (at-mem : Memory → SProp 𝓤) (run : Routine → Fun 𝓤) where
@@ -93,7 +93,7 @@ module _ {M : Type 1} (𝓤 : URA M) (H : Heap 𝓤) (A : Atoms 𝓤) (at-mem : 
   abbrev Callee : Contract 𝓤
   Callee = tripleOf 𝓤 H A callee.signature (callee.spec 𝓤 H A at-mem run)
 
-  said : (h : Clock) (n : ℕ) (s : Bool) (r : Parted) → ent 𝓤 (ensured 𝓤 H A callee.ended (callee.clauses 𝓤 H A at-mem run) tt (h, (n, (s, tt))) tt r) (fact 𝓤 (r ≡ parted (catchUpOf h n s)))
+  said : (h : Clock) (n : ℕ) (s : Bool) (r : CountedClock) → ent 𝓤 (ensured 𝓤 H A callee.ended (callee.clauses 𝓤 H A at-mem run) tt (h, (n, (s, tt))) tt r) (fact 𝓤 (r ≡ parted (catchUpOf h n s)))
   said h n s r = exE 𝓤 _ (λ ws. snd∗ 𝓤 (sem 𝓤 H A (lasts callee.ended tt (h, (n, (s, tt))) ws)) (fact 𝓤 (r ≡ parted (catchUpOf h n s))))
 
 module _ {M : Type 1} (𝓤 : URA M) (H : Heap 𝓤) (A : Atoms 𝓤) (W : Given 𝓤 H A) (at-mem : Memory → SProp 𝓤) (run : Routine → Fun 𝓤) (κ : Lft) (q : Share) (b o : ℕ) (γ : GName) (h : Clock) (n : ℕ) (s : Bool) where
@@ -106,11 +106,11 @@ module _ {M : Type 1} (𝓤 : URA M) (H : Heap 𝓤) (A : Atoms 𝓤) (W : Given
   abbrev Post : Val → SProp 𝓤
   Post = Left 𝓤 H A W others all-kept N.the-row (f.clauses 𝓤 H A at-mem run) κ q b o γ h given given-at tt
 
-  exits : (r : Parted) → r ≡ parted (catchUpOf h n s) → IsCounted (r .answer) → ent 𝓤 (⋆ 𝓤 H A (‵ (fobs γ (T.the-row .coded .code (held h r))) ∷ ‵ (fbor κ (Body (mem T.the-row) b o γ)) ∷ ‵ (flft κ q) ∷ [])) (Post (told (r .answer)))
+  exits : (r : CountedClock) → r ≡ parted (catchUpOf h n s) → IsCounted (r .answer) → ent 𝓤 (⋆ 𝓤 H A (‵ (fobs γ (T.the-row .coded .code (held h r))) ∷ ‵ (fbor κ (Body (mem T.the-row) b o γ)) ∷ ‵ (flft κ q) ∷ [])) (Post (told (r .answer)))
   exits r e is =
       let p : held h r ≡ r .clock = as-answered (eqb (r .answer .refusal) 0) h (r .clock) (as-it-was h n s r e) in
       ends 𝓤 H A W others all-kept N.the-row (f.clauses 𝓤 H A at-mem run) κ q b o γ h given given-at tt (tt, (tt, tt)) (r .answer) (told (r .answer)) (held h r) (L.makes N.the-type N′.the-plain 𝓤 H A (r .answer) _ is)
-      (factI 𝓤 _ (emp 𝓤) (ap (λ (t : Parted). t .answer) e, p ∙ ap (λ (t : Parted). t .clock) e, kept (r .answer .refusal) h (held h r) (λ refused. p ∙ as-it-was h n s r e refused)))
+      (factI 𝓤 _ (emp 𝓤) (ap (λ (t : CountedClock). t .answer) e, p ∙ ap (λ (t : CountedClock). t .clock) e, kept (r .answer .refusal) h (held h r) (λ refused. p ∙ as-it-was h n s r e refused)))
 
   abbrev asked : Callee 𝓤 H A at-mem run .Ghost
   asked = ((tt, tt, tt, (h, given), (value h ∷ [], given-at)), tt)
