@@ -1,4 +1,4 @@
--- Labels of document 01, read; and the readers and writers that the statements shut out.
+-- Labels of document 01, written and read; and the readers and writers that the statements shut out.
 use mathlib.Core.Path.{_≡_, refl, sym, ap, _∙_}
 use mathlib.Core.Bool.{Bool, true, false, true≢false}
 use mathlib.Core.List.{List, []}
@@ -13,7 +13,8 @@ use Rattle.calendar.proofs.Closed.{date-right}
 use Rattle.label.specs.declared.UtcSecond.{UtcSecond}
 use Rattle.label.specs.Inner.{Shows, pairOf, pairAt, dateAt}
 use Rattle.label.specs.Label.{labelOf, isSixty, clockLabel}
-use Rattle.label.specs.Properties.{leapDay, lastLabel, onePast, inserted, noSixty, Labels, ShutOut}
+use Rattle.label.specs.Properties.{leapDay, lastLabel, onePast, inserted, noSixty}
+use Rattle.label.specs.Properties.{AnsweredAs, Labels, WrongLabels, ShutOut}
 use Rattle.label.specs.Reading.{label, noLabel, WrittenFor, ReadsAs, accepted, refused}
 use Rattle.label.specs.Writing.{writeRefusal}
 use Rattle.label.proofs.Accept.{clock-says, clockAt, clock-sound, accepts, lastDay, lastDayEnd}
@@ -43,34 +44,54 @@ inserted-read = accepts lastSecondOfDay true (omega arith) (λ _. refl) inserted
 
 -- ---- 7 February 2106 has no label past 06:28:15
 
-past-end : (text : List ℕ) (r : UtcSecond) (t : ℕ) (sixty : Bool) → dateAt text ≡ on 2106 2 7
-    → Shows t sixty (pairAt text 11) (pairAt text 14) (pairAt text 17) → lastDayEnd < t → ReadsAs text r → r ≡ noLabel
-past-end text r t sixty d w late a =
-    one-answer text r noLabel a (refused (λ c w′.
+past-end : (text : List ℕ) (t : ℕ) (sixty : Bool) → dateAt text ≡ on 2106 2 7
+    → Shows t sixty (pairAt text 11) (pairAt text 14) (pairAt text 17) → lastDayEnd < t → ReadsAs text noLabel
+past-end text t sixty d w late =
+    refused (λ c w′.
     let y : Says text (c .seconds) (isSixty c) = clock-says w′ in
-    let day = one-day lastDay (c .seconds / secondsPerDay) (sym (date-right lastDay (omega arith)) ∙ sym d ∙ y .date) in
-    omega (arith, day, shown-once w (y .time) .0, y .bound)))
+    let right = date-right lastDay (omega arith) in
+    let day = one-day lastDay (c .seconds / secondsPerDay) (sym right ∙ sym d ∙ y .date) in
+    omega (arith, day, shown-once w (y .time) .0, y .bound))
 
-pub labels : Labels ReadsAs
+answered : {text : List ℕ} {a : UtcSecond} → ReadsAs text a → AnsweredAs ReadsAs text a
+answered {text} {a} w = record { given = w; only = λ r v. one-answer text r a v w }
+
+pub labels : Labels labelOf ReadsAs
 unfolding pairOf
 labels =
     record {
-      leap = λ r a. one-answer leapDay r _ a leap-read;
-      last =
-          λ r a.
-          one-answer lastLabel r _ a
-          (accepts lastSecond false (omega arith) (λ e. absurd (true≢false (sym e))) last-label);
-      sixty = λ r a. one-answer inserted r _ a inserted-read;
+      leapWritten = sym leap-day;
+      lastWritten = sym last-label;
+      sixtyWritten = sym inserted-second;
+      leap = answered leap-read;
+      last = answered (accepts lastSecond false (omega arith) (λ e. absurd (true≢false (sym e))) last-label);
+      sixty = answered inserted-read;
       past =
-          λ r a.
-          past-end onePast r (lastDayEnd + 1) false refl
-          (record { within = omega arith; last = λ e. absurd (true≢false (sym e)); hour = refl; minute = refl; second = refl })
-          (omega arith) a;
+          answered (past-end onePast (lastDayEnd + 1) false refl
+          (record {
+            within = omega arith;
+            last = λ e. absurd (true≢false (sym e));
+            hour = refl;
+            minute = refl;
+            second = refl;
+          })
+          (omega arith));
       pastSixty =
-          λ r a.
-          past-end noSixty r lastSecondOfDay true refl
+          answered (past-end noSixty lastSecondOfDay true refl
           (record { within = omega arith; last = λ _. refl; hour = refl; minute = refl; second = refl })
-          (omega arith) a;
+          (omega arith));
+    }
+
+-- of the inserted second's label, byte 17 is the 6 of its 60
+pub wrong-labels : WrongLabels
+unfolding labelOf
+wrong-labels =
+    record {
+      silent = λ l. l .leap .given;
+      fiftyNine =
+          λ l.
+          let z : _≡_ {A = ℕ} 0x35 0x36 = ap (λ (s : List ℕ). getD s 17 0) (l .sixtyWritten) in
+          absurd (omega arith);
     }
 
 -- ---- what is shut out

@@ -9,7 +9,7 @@ use Prim.Native.Nat.{ℕ}
 use lib.ListN.{take, drop}
 use Rattle.state.specs.declared.state.Clock.{Clock}
 use Rattle.label.specs.declared.UtcSecond.{UtcSecond}
-use Rattle.label.specs.Label.{labelSize, isSixty}
+use Rattle.label.specs.Label.{labelSize, labelOf, isSixty}
 use Rattle.label.specs.Writing.{writeRefusal}
 use Rattle.label.specs.Reading.{label, noLabel, WrittenFor, ReadsAs}
 
@@ -94,10 +94,32 @@ noSixty =
     0x32 ∷ 0x31 ∷ 0x30 ∷ 0x36 ∷ 0x2D ∷ 0x30 ∷ 0x32 ∷ 0x2D ∷ 0x30 ∷ 0x37
     ∷ 0x54 ∷ 0x32 ∷ 0x33 ∷ 0x3A ∷ 0x35 ∷ 0x39 ∷ 0x3A ∷ 0x36 ∷ 0x30 ∷ 0x5A ∷ []
 
--- how each is read
-pub record Labels (reads : Reader) : Type 0 where
-  pub leap : (r : UtcSecond) → reads leapDay r → r ≡ label 951782400 false
-  pub last : (r : UtcSecond) → reads lastLabel r → r ≡ label 4294967295 false
-  pub sixty : (r : UtcSecond) → reads inserted r → r ≡ label 86399 true
-  pub past : (r : UtcSecond) → reads onePast r → r ≡ noLabel
-  pub pastSixty : (r : UtcSecond) → reads noSixty r → r ≡ noLabel
+-- some bytes are answered so, and not otherwise
+pub record AnsweredAs (reads : Reader) (text : List ℕ) (a : UtcSecond) : Type 0 where
+  pub given : reads text a
+  pub only : (r : UtcSecond) → reads text r → r ≡ a
+
+-- how the labels are written of their seconds, and how each of the strings is read
+pub record Labels (bytes : ℕ → Bool → List ℕ) (reads : Reader) : Type 0 where
+  pub leapWritten : bytes 951782400 false ≡ leapDay
+  pub lastWritten : bytes 4294967295 false ≡ lastLabel
+  pub sixtyWritten : bytes 86399 true ≡ inserted
+  pub leap : AnsweredAs reads leapDay (label 951782400 false)
+  pub last : AnsweredAs reads lastLabel (label 4294967295 false)
+  pub sixty : AnsweredAs reads inserted (label 86399 true)
+  pub past : AnsweredAs reads onePast noLabel
+  pub pastSixty : AnsweredAs reads noSixty noLabel
+
+-- ---- what they shut out
+
+-- no answer is allowed
+abbrev pub noAnswer : Reader
+noAnswer text r = ⊥
+
+-- no second reads 60
+abbrev pub neverSixty : ℕ → Bool → List ℕ
+neverSixty s sixty = labelOf s false
+
+pub record WrongLabels : Type 0 where
+  pub silent : Labels labelOf noAnswer → ⊥
+  pub fiftyNine : Labels neverSixty ReadsAs → ⊥

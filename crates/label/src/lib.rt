@@ -5,9 +5,8 @@ mod text;
 mod units;
 
 ghost use mathlib.Core.Path.{_≡_};
-ghost use mathlib.Core.Bool.{Bool};
 ghost use Rattle.label.specs.Writing.{writeRefusal, writtenTo, Readable};
-ghost use Rattle.label.specs.Reading.{ReadsAs};
+ghost use Rattle.label.specs.Reading.{noLabel, ReadsAs};
 use crate::fields::DayTime;
 use calendar::Found;
 use state::Clock;
@@ -58,7 +57,7 @@ pub struct UtcSecond {
 }
 
 fn not_a_label() -> UtcSecond
-    ensures { λ r. ⌜ r ≡ record { refusal = 15; seconds = 0; sixty = Bool.false } ⌝ }
+    ensures { λ r. ⌜ r ≡ noLabel ⌝ }
 {
     UtcSecond {
         refusal: REFUSED_LABEL,
