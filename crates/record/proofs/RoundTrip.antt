@@ -47,10 +47,11 @@ says-own version c known later sound kind parts =
     let w = update-parts c sound in
     record { known = known; sound = sound; kind = kind; flagged = w .0; ranged = simp later (w .1); update = simp later; remainder = parts .0; leftover = parts .1 }
 
-pub writes-newest : WritesNewest
+pub writes-newest : WritesNewest recordOf
 writes-newest c e =
     let w = parts-sound c e in
-    says-own newest c refl refl e (kind-sound c e) (rw unmapped-mapped (w .0), rw unmapped-mapped (w .1))
+    let parts : PartsSuit newest c = (rw unmapped-mapped (w .0), rw unmapped-mapped (w .1)) in
+    record { written = refl; says = says-own newest c refl refl e (kind-sound c e) parts }
 
 -- ---- what is read was written
 
@@ -109,7 +110,10 @@ saved-is-kept c buf e =
     let w = stored c buf t (ltb-false _ _ l) refl refl in
     let n : savingOf c buf .length ≡ length (recordOf c) = sym (ap (λ (y : Saved). y .length) (w .answer)) in
     let b : bufferAfter c buf ≡ recordOf c ++ drop (length (recordOf c)) buf = sym (w .buffer) in
-    record { read = rw (n, b, take-append-seam) (reads-back newest c _ _ (writes-newest c t)); later = rw (n, b, drop-append-seam) })
+    record {
+      read = rw (n, b, take-append-seam) (reads-back newest c _ _ (writes-newest c t .says));
+      later = rw (n, b, drop-append-seam);
+    })
     (either (ltb (length buf) (length (recordOf c)))))
     (λ t. refuses {r = 1} (omega arith) (out-of-range c buf t .answer) e)
     (either (inRange c))

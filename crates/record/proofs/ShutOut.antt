@@ -71,7 +71,7 @@ written : recordOf fresh ≡ 0x04 ∷ 0x00 ∷ freshFields256 ++ noParts
 written = fresh-records .written256
 
 says-fresh : Says newest fresh 0 0
-says-fresh = writes-newest fresh (fresh-sound .0)
+says-fresh = writes-newest fresh (fresh-sound .0) .says
 
 -- its bytes, but for the version, which is none; and its bytes with one behind them
 abbrev spoilt : List ℕ
@@ -106,6 +106,8 @@ shut-out =
           let e = nothing-follows newest fresh 0 0 (0x00 ∷ []) says-fresh (omega arith) in
           let f = sym (damaged _ (omega arith) e) ∙ h newest fresh 0 0 (0x00 ∷ []) says-fresh (omega arith) in
           told-apart f (λ z. omega arith);
+      notNewest =
+          λ h. first-apart (of3 .written ∙ h fresh (fresh-sound .0) .written ∙ written) (λ z. omega arith);
       formless =
           λ h.
           let s : List ℕ = 0xFF ∷ [] in

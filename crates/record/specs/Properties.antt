@@ -1,7 +1,8 @@
 -- What holds of all records: the statements that the crate proves of the definitions, for whoever wants to
--- know what the field-by-field definitions come to. Each is said of any reader or writer, and holds of those
--- that the contracts name: `readingOf`, `recordOf`, `savingOf` with `bufferAfter`. Those that they shut out
--- are in `WrongReaders`.
+-- know what the field-by-field definitions come to. What is owed of every reading or writing is said of any
+-- reader or writer, and holds of those that the contracts name: `readingOf`, `recordOf`, `savingOf` with
+-- `bufferAfter`. Those that it shuts out are in `WrongReaders`. `Refusals` and `FreshRecords` are bytes of
+-- these themselves, and `Longest` and `OneLongest` are about records, whoever writes them.
 use mathlib.Core.Path.{_≡_}
 use mathlib.Core.Bool.{Bool, true}
 use mathlib.Core.List.{List, [], _∷_, _++_}
@@ -60,9 +61,14 @@ NothingFollows read =
     (version : ℕ) (c : Clock) (flag last : ℕ) (rest : List ℕ) → Says version c flag last → 0 < length rest
     → read (recordIn version c flag last ++ rest) ≡ refusedWith refusedBeyond
 
--- "Writers use the newest version": what is written of a clock in range says it
-abbrev pub WritesNewest : Type 0
-WritesNewest = (c : Clock) → inRange c ≡ true → Says newest c (c .updated) (c .interval)
+-- "Writers use the newest version": what is written of a clock in range is its record of that version, which
+-- says it
+pub record WrittenNewest (write : Writer) (c : Clock) : Type 0 where
+  pub written : write c ≡ recordIn newest c (c .updated) (c .interval)
+  pub says : Says newest c (c .updated) (c .interval)
+
+abbrev pub WritesNewest : Writer → Type 0
+WritesNewest write = (c : Clock) → inRange c ≡ true → WrittenNewest write c
 
 -- ---- what is read was written
 

@@ -10,7 +10,8 @@ use Rattle.state.specs.declared.state.Clock.{Clock}
 use Rattle.record.specs.Layout.{recordIn, recordOf}
 use Rattle.record.specs.Reading.{readingOf, accepted, refusedWith}
 use Rattle.record.specs.Saving.{savingOf, bufferAfter}
-use Rattle.record.specs.Properties.{Reader, Writer, ReadsBack, NothingFollows, OneForm, OneNewest, Version1, Version2, Version3, RefusedIsFresh, ExactlyWhen, SavedIsKept}
+use Rattle.record.specs.Properties.{Reader, Writer, ReadsBack, NothingFollows, WritesNewest, OneForm, OneNewest}
+use Rattle.record.specs.Properties.{Version1, Version2, Version3, RefusedIsFresh, ExactlyWhen, SavedIsKept}
 
 -- every reading is refused with n
 abbrev pub refusesWith : ℕ → Reader
@@ -41,6 +42,7 @@ cutsOff c buf = recordOf c
 pub record ShutOut : Type 0 where
   pub refusing : ReadsBack (refusesWith 10) → ⊥
   pub following : NothingFollows takesDamaged → ⊥
+  pub notNewest : WritesNewest writesVersion3 → ⊥
   pub formless : OneForm takesDamaged → ⊥
   pub formlessNewest : OneNewest takesDamaged recordOf → ⊥
   pub oldWritten : OneNewest readingOf writesVersion3 → ⊥
