@@ -30,12 +30,13 @@ use Rattle.clock.specs.Ticks.{ranOf, ticksOf}
 use Rattle.clock.proofs.RunLaws.{ticks-one-more}
 use Rattle.playback.specs.Lines.{printLine}
 use Rattle.playback.specs.Event.{outcomeOf, lineOf}
-use Rattle.playback.specs.Run.{Advanced, longestHistory, startOfRun, endOf, step, runAfter, stepsToEnd, replayOf}
-use Rattle.playback.specs.Calls.{callsOfEvent, callsFrom, callsOfFirst, replayer, allCalls}
+use Rattle.playback.specs.Run.{Advanced, longestHistory, startOfRun, endOf, step, runAfter, linesOf}
+use Rattle.playback.specs.Run.{stepsToEnd, replayOf}
+use Rattle.playback.specs.Calls.{callsOfEvent, callsFrom, callsOfFirst, allCalls, replayer, joined}
 use Rattle.playback.specs.Calls.{PrintAt, Tells, Demand3OfEveryHistory}
 use Rattle.playback.specs.declared.run.Run.{Run}
 use Rattle.playback.proofs.LineLaws.{reading-sound, line-print}
-use Rattle.playback.proofs.RunLaws.{step-long, step-end, step-found, run-ended, start-ends}
+use Rattle.playback.proofs.RunLaws.{step-long, step-end, step-found, lines-more, run-ended, start-ends}
 
 -- ---- the clock after the calls of an event
 
@@ -183,7 +184,7 @@ module _ (s : List ℕ) where
   clocks : (k : ℕ) → runAfter k s startOfRun .clock ≡ clockAfter kind256 (callsOfFirst k s)
   clocks k = by-length k (ltb longestHistory (length s)) refl
 
-  module _ (k : ℕ) (p : PrintAt replayer s k) where
+  module _ (k : ℕ) (p : PrintAt s k) where
     abbrev now : Run
     now = runAfter k s startOfRun
 
@@ -204,7 +205,7 @@ module _ (s : List ℕ) where
     unfolding more
     counted = omega (arith, before-end (leb (stepsToEnd s) k) refl)
 
-    among : allCalls replayer s ≡ callsOfFirst k s ++ (single Reading ∷ callsFrom more s (p .next))
+    among : allCalls s ≡ callsOfFirst k s ++ (single Reading ∷ callsFrom more s (p .next))
     unfolding callsOfFirst CallsOn
     among =
         simp (le-ltb longestHistory (length s) fits)
@@ -225,12 +226,19 @@ module _ (s : List ℕ) where
     tells : Tells stepOf replayer s k
     tells =
         record {
-          later = callsFrom more s (p .next);
-          among = cc among;
+          listed = record { later = callsFrom more s (p .next); among = cc among };
           refusal = cc accepted;
           reading = cc (reading-shown (clockAfter kind256 (callsOfFirst k s)) accepted);
           line = cc shown-line;
         }
+
+-- the lines of a run are those of its steps
+lines-joined : (s : List ℕ) (k : ℕ) → linesOf k s startOfRun ≡ joined k (λ j. replayer .line j s)
+unfolding linesOf joined
+lines-joined s zero = refl
+lines-joined s (suc k) =
+    lines-more s k startOfRun
+    ∙ ap (λ (ws : List ℕ). ws ++ step s (runAfter k s startOfRun) .line) (lines-joined s k)
 
 pub demand3-of-history : Demand3OfEveryHistory
 unfolding replayOf
@@ -240,4 +248,5 @@ demand3-of-history s =
       clock = cc (clocks s (stepsToEnd s));
       clocks = λ k. cc (clocks s k);
       prints = tells s;
+      output = cc (lines-joined s (stepsToEnd s));
     }

@@ -24,12 +24,12 @@ use Rattle.bounds.specs.Singly.{singleTicks, singlyFrom, asEvents}
 use Rattle.bounds.specs.Measure.{measureOf}
 use Rattle.history.specs.Event.{ticksAt, argumentsAt, eventAt}
 use Rattle.playback.specs.Lines.{decimalFrom, decimal, printLine}
-use Rattle.playback.specs.Event.{outcomeOf}
+use Rattle.playback.specs.Event.{outcomeOf, printedBy, printed, lineOf}
 use Rattle.playback.specs.Run.{step, runAfter}
-use Rattle.playback.specs.Calls.{Replayer, PrintAt, callsFrom, callsOfFirst}
-use Rattle.playback.specs.WrongReplays.{printBetween, WrongReplays}
+use Rattle.playback.specs.Calls.{callsFrom, callsOfFirst, joined, PrintAt}
+use Rattle.playback.specs.WrongReplays.{lonePrint, printBetween, WrongReplays}
 use Rattle.bounds.proofs.ShutOut.{not-most}
-use Rattle.playback.proofs.Apart.{not-same, byte-apart}
+use Rattle.playback.proofs.Apart.{not-same, length-apart, byte-apart}
 
 micros-apart : {a b : Clock} → eqb (a .micros .0) (b .micros .0) ≡ false → a ≡ b → ⊥
 micros-apart e h = not-same e (ap (λ (c : Clock). c .micros .0) h)
@@ -37,24 +37,30 @@ micros-apart e h = not-same e (ap (λ (c : Clock). c .micros .0) h)
 shown-apart : {a b : shows.Reading} → eqb (a .micros .0) (b .micros .0) ≡ false → a ≡ b → ⊥
 shown-apart e h = not-same e (ap (λ (c : shows.Reading). c .micros .0) h)
 
--- the event between the ticks is a print, of whatever stands there after the first
-print-at : (x : Replayer) → x .after 1 printBetween .ended ≡ false → x .after 1 printBetween .place ≡ 2
-    → PrintAt x printBetween 1
-unfolding leadingMore valueOf judged numberAt then argumentsAt eventAt
-print-at x going place = record { fits = omega arith; going = going; next = 3; print = rw place }
+-- the event between the ticks is a print, and so is one alone
+print-between : PrintAt printBetween 1
+unfolding leadingMore valueOf judged numberAt then ticksAt argumentsAt eventAt step runAfter
+print-between = record { fits = omega arith; going = refl; next = 3; print = refl }
+
+print-alone : PrintAt lonePrint 0
+unfolding leadingMore valueOf judged numberAt then argumentsAt eventAt runAfter
+print-alone = record { fits = omega arith; going = refl; next = 1; print = refl }
 
 pub wrong-replays : WrongReplays
 unfolding deviceOf measureOf dateOf inRange rolledOver unitIn ticked tickRefusal tickOf readingRefusal
     toldOf ranOf ticksOf leadingMore valueOf judged numberAt then ticksAt argumentsAt eventAt labelOf
-    decimalFrom decimal printLine outcomeOf step runAfter afterBy countAmongBy noneAmongBy singleTicks singlyFrom
-    asEvents callsFrom callsOfFirst
+    decimalFrom decimal printLine outcomeOf printedBy printed lineOf step runAfter afterBy countAmongBy
+    noneAmongBy singleTicks singlyFrom asEvents callsFrom callsOfFirst joined
 wrong-replays =
     record {
       idling = λ d. not-most refl (d .demand .third [] (single Tick ∷ []) [] refl refl);
+      nothing = λ d. micros-apart refl (d .clock);
+      nothingPrinted = λ d. length-apart refl (d .prints 0 print-alone .line);
       forgetting = λ d. micros-apart refl (d .clock);
       staying = λ d. micros-apart refl (d .clocks 1);
-      unlisted = λ d. omega (arith, ap length (d .prints 1 (print-at _ refl refl) .among));
-      printing = λ d. byte-apart 23 refl (d .prints 1 (print-at _ refl refl) .line);
-      refusing = λ d. not-same refl (d .prints 1 (print-at _ refl refl) .refusal);
-      zeros = λ d. shown-apart refl (d .prints 1 (print-at _ refl refl) .reading);
+      unlisted = λ a. omega (arith, ap length (a .among));
+      printing = λ d. byte-apart 23 refl (d .prints 1 print-between .line);
+      silent = λ d. length-apart refl (d .output);
+      refusing = λ d. not-same refl (d .prints 1 print-between .refusal);
+      zeros = λ d. shown-apart refl (d .prints 1 print-between .reading);
     }

@@ -10,40 +10,51 @@ use Rattle.clock.specs.Reading.{noReading}
 use Rattle.clock.specs.declared.reading.Reading as shows
 use Rattle.event.specs.Event.{stepOf}
 use Rattle.event.specs.declared.event.Call.the-variants.{Tick, Setting, Request, Reading}
+use Rattle.event.specs.declared.event.Event as call
 use Rattle.event.specs.declared.event.Event.the-variants.{Call as single, CatchUp}
 use Rattle.event.specs.declared.event.Stepped.{Stepped}
 use Rattle.bounds.specs.Calls.{Answers}
 use Rattle.bounds.specs.WrongClocks.{idles}
 use Rattle.playback.specs.Lines.{printLine}
 use Rattle.playback.specs.Run.{stepsToEnd, replayOf}
-use Rattle.playback.specs.Calls.{Replayer, replayer, clockAt, Demand3OfHistory}
+use Rattle.playback.specs.Calls.{callsOfFirst, clockAt, Replayer, replayer, joined}
+use Rattle.playback.specs.Calls.{Among, Demand3OfHistory}
 
--- a tick, a print and a tick; and two prints with a tick between them
+-- a print; a tick, a print and a tick; and two prints with a tick between them
+abbrev pub lonePrint : List ℕ
+lonePrint = 0x03 ∷ []
+
 abbrev pub printBetween : List ℕ
 printBetween = 0x00 ∷ 0x01 ∷ 0x03 ∷ 0x00 ∷ 0x01 ∷ []
 
 abbrev pub twoPrints : List ℕ
 twoPrints = 0x03 ∷ 0x00 ∷ 0x01 ∷ 0x03 ∷ []
 
--- the replay by whatever answers the calls: it has the clock that they leave, and prints it
+-- the replay by whatever answers the calls: it has the clock that they leave, and prints it at each step
 abbrev pub replayedBy : Answers → Replayer
 replayedBy answers =
     record {
-      calls = replayer .calls;
-      after = λ k s. record {
-        clock = clockAt answers replayer k s;
-        place = replayer .after k s .place;
-        ended = replayer .after k s .ended;
+      after = λ k s. clockAt answers k s;
+      line = λ k s. printLine (clockAt answers k s);
+      played = λ s. record {
+        output = joined (stepsToEnd s) (λ k. printLine (clockAt answers k s));
+        clock = clockAt answers (stepsToEnd s) s;
       };
-      line = λ k s. printLine (clockAt answers replayer k s);
-      played = λ s. record { output = replayOf s .output; clock = clockAt answers replayer (stepsToEnd s) s };
+    }
+
+-- it runs nothing: it has the clock that it began with, and prints no line
+abbrev pub runsNothing : Replayer
+runsNothing =
+    record {
+      after = λ k s. freshClock kind256;
+      line = λ k s. [];
+      played = λ s. record { output = []; clock = freshClock kind256 };
     }
 
 -- in the end it hands back the clock that it began with
 abbrev pub handsBackFresh : Replayer
 handsBackFresh =
     record {
-      calls = replayer .calls;
       after = replayer .after;
       line = replayer .line;
       played = λ s. record { output = replayOf s .output; clock = freshClock kind256 };
@@ -51,37 +62,32 @@ handsBackFresh =
 
 -- until then its run has the clock that it began with
 abbrev pub staysFresh : Replayer
-staysFresh =
-    record {
-      calls = replayer .calls;
-      after = λ k s. record {
-        clock = freshClock kind256;
-        place = replayer .after k s .place;
-        ended = replayer .after k s .ended;
-      };
-      line = replayer .line;
-      played = replayer .played;
-    }
+staysFresh = record { after = λ k s. freshClock kind256; line = replayer .line; played = replayer .played }
 
--- it calls what the first event says, and nothing after it
-abbrev pub callsFirstAlone : Replayer
-callsFirstAlone =
-    record {
-      calls = λ k s. replayer .calls (min k 1) s;
-      after = λ k s. replayer .after (min k 1) s;
-      line = λ k s. replayer .line (min k 1) s;
-      played = λ s. record { output = replayOf s .output; clock = replayer .after 1 s .clock };
-    }
-
--- it prints the clock that it began with
+-- it prints the clock that it began with, at each step
 abbrev pub printsFresh : Replayer
 printsFresh =
     record {
-      calls = replayer .calls;
       after = replayer .after;
       line = λ k s. printLine (freshClock kind256);
-      played = replayer .played;
+      played = λ s. record {
+        output = joined (stepsToEnd s) (λ k. printLine (freshClock kind256));
+        clock = replayOf s .clock;
+      };
     }
+
+-- its lines are right, and it prints none of them
+abbrev pub keepsLines : Replayer
+keepsLines =
+    record {
+      after = replayer .after;
+      line = replayer .line;
+      played = λ s. record { output = []; clock = replayOf s .clock };
+    }
+
+-- the calls of the first event, and none after it
+abbrev pub firstAlone : ℕ → List ℕ → List call.Event
+firstAlone k s = callsOfFirst (min k 1) s
 
 -- an answer, but for its refusal and its reading
 abbrev pub telling : ℕ → shows.Reading → Stepped → Stepped
@@ -115,11 +121,15 @@ zeroOnce = misreads (telling 0 noReading)
 pub record WrongReplays : Type 0 where
   -- its ticks do nothing: the second print tells no later time than the first
   pub idling : Demand3OfHistory idles (replayedBy idles) twoPrints → ⊥
+  -- of a print alone the clock is right: its line is missing
+  pub nothing : Demand3OfHistory stepOf runsNothing printBetween → ⊥
+  pub nothingPrinted : Demand3OfHistory stepOf runsNothing lonePrint → ⊥
   pub forgetting : Demand3OfHistory stepOf handsBackFresh printBetween → ⊥
   pub staying : Demand3OfHistory stepOf staysFresh printBetween → ⊥
-  -- its print is none of its calls
-  pub unlisted : Demand3OfHistory stepOf callsFirstAlone printBetween → ⊥
+  -- the print is none of the calls
+  pub unlisted : Among firstAlone printBetween 1 → ⊥
   pub printing : Demand3OfHistory stepOf printsFresh printBetween → ⊥
+  pub silent : Demand3OfHistory stepOf keepsLines lonePrint → ⊥
   -- the reading that stands for its print is refused, or tells another time
   pub refusing : Demand3OfHistory refusesOnce (replayedBy refusesOnce) printBetween → ⊥
   pub zeros : Demand3OfHistory zeroOnce (replayedBy zeroOnce) printBetween → ⊥
