@@ -29,9 +29,9 @@ shut-out =
     record {
       answering = (omega arith, refl, tt);
       near = λ near. not-below refl (near [] [] _ refl (refl, refl) .1);
-      answer = λ alone. eqb-false _ _ refl (ap (λ (a : Answer). a .reading .seconds) (alone [] [] _ refl .answer refl));
+      answer = λ alone. eqb-false _ _ refl (ap (λ (a : Answer). a .reading .seconds) (alone [] [] _ refl refl));
       storing = (omega arith, refl, (omega arith, refl, (omega arith, refl, tt)));
       forward = λ forward. not-most refl (forward [] (_ ∷ []) [] _ _ refl (refl, refl) (refl, refl) refl);
-      left = λ alone. eqb-false _ _ refl (ap (λ (c : Clock). c .micros .0) (alone (_ ∷ []) (_ ∷ []) _ refl .left));
-      got = λ alone. eqb-false _ _ refl (ap (λ (c : Clock). c .micros .0) (alone (_ ∷ _ ∷ []) [] _ refl .got));
+      left = λ alone. eqb-false _ _ refl (ap (λ (c : Clock). c .micros .0) (alone (_ ∷ []) (_ ∷ []) _ refl));
+      got = λ alone. eqb-false _ _ refl (ap (λ (c : Clock). c .micros .0) (alone (_ ∷ _ ∷ []) [] _ refl));
     }

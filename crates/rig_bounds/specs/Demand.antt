@@ -65,18 +65,30 @@ OnlyTheseChange rig c (k ∷ ks) =
     (k .at < length (k .table)) × (clockBefore k ≡ c) × OnlyTheseChange rig (clockBehind rig k) ks
 
 -- A call of a list, with those before it, is one on a clock by itself, c at first, to which its own events
--- have happened.
-pub record AsAlone (rig : Rig) (c : Clock) (before : List RigCall) (k : RigCall) : Type 0 where
-  -- the clock that it gets, and the one that it leaves
-  pub got : clockBefore k ≡ clockFrom c (ownEvents before)
-  pub left : clockBehind rig k ≡ clockFrom c (ownEvents (before ++ (k ∷ [])))
-  -- what it answers, where it reaches the clock
-  pub answer : reaches k ≡ true → rigAnswer rig k ≡ answered (stepOf (clockFrom c (ownEvents before)) (k .event))
+-- have happened: by the clock that it gets,
+abbrev pub GetsAsAlone : Clock → List RigCall → RigCall → Type 0
+GetsAsAlone c before k = clockBefore k ≡ clockFrom c (ownEvents before)
 
--- each call of a list
+-- the clock that it leaves,
+abbrev pub LeavesAsAlone : Rig → Clock → List RigCall → RigCall → Type 0
+LeavesAsAlone rig c before k = clockBehind rig k ≡ clockFrom c (ownEvents (before ++ (k ∷ [])))
+
+-- and what it answers, where it reaches the clock
+abbrev pub AnswersAsAlone : Rig → Clock → List RigCall → RigCall → Type 0
+AnswersAsAlone rig c before k =
+    reaches k ≡ true → rigAnswer rig k ≡ answered (stepOf (clockFrom c (ownEvents before)) (k .event))
+
+pub record AsAlone (rig : Rig) (c : Clock) (before : List RigCall) (k : RigCall) : Type 0 where
+  pub got : GetsAsAlone c before k
+  pub left : LeavesAsAlone rig c before k
+  pub answer : AnswersAsAlone rig c before k
+
+-- each call of a list, with those before it, is so
+abbrev pub Each : (List RigCall → RigCall → Type 0) → List RigCall → Type 0
+Each is calls = (before later : List RigCall) (k : RigCall) → calls ≡ before ++ (k ∷ later) → is before k
+
 abbrev pub EachAsAlone : Rig → Clock → List RigCall → Type 0
-EachAsAlone rig c calls =
-    (before later : List RigCall) (k : RigCall) → calls ≡ before ++ (k ∷ later) → AsAlone rig c before k
+EachAsAlone rig c calls = Each (AsAlone rig c) calls
 
 -- a reading of the clock, on the rig
 abbrev pub ReadingOf : RigCall → Type 0

@@ -12,7 +12,9 @@ use Rattle.event.specs.declared.event.Event.the-variants.{Call}
 use Rattle.cases.specs.Cases.{set}
 use Rattle.rig.specs.Rig.{answerAt, tableAt}
 use Rattle.rig.specs.OneClock.{Rig}
-use Rattle.rig_bounds.specs.Demand.{RigCall, OnlyTheseChange, EachAsAlone, ReadingsNear, ReadingsForward, PlacedEvent, callsInTurn}
+use Rattle.rig_bounds.specs.Demand.{RigCall, OnlyTheseChange, PlacedEvent, callsInTurn}
+use Rattle.rig_bounds.specs.Demand.{Each, GetsAsAlone, LeavesAsAlone, AnswersAsAlone}
+use Rattle.rig_bounds.specs.Demand.{ReadingsNear, ReadingsForward}
 
 -- whichever clock is named, the first answers
 abbrev pub answersFirst : Rig
@@ -43,8 +45,8 @@ readTickRead =
 pub record ShutOut : Type 0 where
   pub answering : OnlyTheseChange answersFirst (freshClock kind256) readBehind
   pub near : ReadingsNear answersFirst kind256 readBehind → ⊥
-  pub answer : EachAsAlone answersFirst (freshClock kind256) readBehind → ⊥
+  pub answer : Each (AnswersAsAlone answersFirst (freshClock kind256)) readBehind → ⊥
   pub storing : OnlyTheseChange storesNothing (freshClock kind256) readTickRead
   pub forward : ReadingsForward storesNothing kind256 readTickRead → ⊥
-  pub left : EachAsAlone storesNothing (freshClock kind256) readTickRead → ⊥
-  pub got : EachAsAlone storesNothing (freshClock kind256) readTickRead → ⊥
+  pub left : Each (LeavesAsAlone storesNothing (freshClock kind256)) readTickRead → ⊥
+  pub got : Each (GetsAsAlone (freshClock kind256)) readTickRead → ⊥
