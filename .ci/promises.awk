@@ -170,8 +170,12 @@ function read_refused(cell,    i, n, list, last) {
 
 # ---- what is not there
 
-function hold_theorems(    i) {
+function hold_theorems(    i, first) {
     for (i = 1; i <= theorems; i++) {
+        first = statement[i]
+        sub(/ .*/, "", first)
+        if ((first in is_family) && index(statement[i], "λ"))
+            fault(where[i], "`" theorem[i] "` says `" first "` of something without a name: define it in specs/")
         if (!of_specs(statement[i]) || ((theorem[i], where[i]) in is_held)) continue
         file = where[i]
         sub(/^crates\//, "", file)

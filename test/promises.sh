@@ -18,6 +18,9 @@ pub record Always : Type 0 where
   pub first : told 0 ≡ 0
 
 pub data Found : Type 0 where
+
+abbrev pub Keeps : (ℕ → ℕ) → Type 0
+Keeps f = f 0 ≡ 0
 ANTT
     echo 'abbrev pub other : ℕ' >"$promised/crates/one/specs/More.antt"
     cat >"$promised/crates/one/proofs/Law.antt" <<'ANTT'
@@ -92,6 +95,8 @@ crates/one/proofs/Law.antt|pub always : Always|pub always : Found|docs/PROMISES.
 crates/one/proofs/Law.antt|told m ≡ m|told m ≡ told m|docs/PROMISES.md:13: `long` in crates/one/proofs/Law.antt does not say `(m : ℕ) → told m ≡ m`
 crates/one/proofs/Law.antt|pub always :|pub ever :|docs/PROMISES.md:12: there is no theorem `always` in crates/one/proofs/Law.antt
 crates/one/proofs/Law.antt|pub found : Found|pub again : Always|crates/one/proofs/Law.antt: `again` is in no row under "The theorems" of docs/PROMISES.md; add: | `again` | `Always` | `one/proofs/Law.antt` |
+crates/one/proofs/Law.antt|pub found : Found|pub kept : Keeps told|crates/one/proofs/Law.antt: `kept` is in no row under "The theorems"
+crates/one/proofs/Law.antt|pub found : Found|pub kept : Keeps (λ n. n)|crates/one/proofs/Law.antt: `kept` says `Keeps` of something without a name: define it in specs/
 crates/one/specs/Said.antt|record Always|record Ever|docs/PROMISES.md:3: `Always` is no definition
 crates/one/specs/Said.antt|abbrev pub told|abbrev pub tell|docs/PROMISES.md:3: `told` is no definition
 crates/one/specs/Said.antt|pub first|pub last|docs/PROMISES.md:3: `first` is no definition

@@ -376,14 +376,15 @@ markedCases =
     (tickTimes 1 then (refusal 0 ∷ leftover isℤ negℤ (pos 47) ∷ []) ∷ [])
     ∷ []
 
--- the name of a row, and how many values it says are seen
+-- the name of a row, how many fields it starts with, and how many values it says are seen
 pub record Heading : Type 0 where
   pub name : ℕ
+  pub fields : ℕ
   pub values : ℕ
 
-infixl 80 _shows_
-abbrev pub _shows_ : ℕ → ℕ → Heading
-n shows k = record { name = n; values = k }
+infixl 80 _starts_shows_
+abbrev pub _starts_shows_ : ℕ → ℕ → ℕ → Heading
+n starts f shows k = record { name = n; fields = f; values = k }
 
 abbrev pub valuesIn : List Stage → ℕ
 valuesIn [] = 0
@@ -391,19 +392,23 @@ valuesIn (g ∷ gs) = length (g .then) + valuesIn gs
 
 abbrev pub headings : List Case → List Heading
 headings [] = []
-headings (k ∷ ks) = (k .name shows valuesIn (k .stages)) ∷ headings ks
+headings (k ∷ ks) = (k .name starts length (k .from) shows valuesIn (k .stages)) ∷ headings ks
 
 -- The rows that there are: 1 to 11 document 01's, of which 6 is at two frequencies, 12 and 13 its edges at
 -- the last second; of document 02 the interval 14 to 16, the second device 17 to 25, an offset too soon 26,
 -- and the kept remainder 27 to 41.
 abbrev pub allHeadings : List Heading
 allHeadings =
-    1 shows 3 ∷ 2 shows 3 ∷ 3 shows 4 ∷ 4 shows 4 ∷ 5 shows 3 ∷ 6 shows 3 ∷ 6 shows 3 ∷ 7 shows 2
-    ∷ 8 shows 3 ∷ 9 shows 3 ∷ 10 shows 4 ∷ 11 shows 2 ∷ 12 shows 3 ∷ 13 shows 2 ∷ 14 shows 4 ∷ 15 shows 4
-    ∷ 16 shows 19 ∷ 17 shows 3 ∷ 18 shows 3 ∷ 19 shows 4 ∷ 20 shows 4 ∷ 21 shows 3 ∷ 22 shows 3
-    ∷ 23 shows 3 ∷ 24 shows 3 ∷ 25 shows 3 ∷ 26 shows 12 ∷ 27 shows 13 ∷ 28 shows 11 ∷ 29 shows 3
-    ∷ 30 shows 2 ∷ 31 shows 4 ∷ 32 shows 4 ∷ 33 shows 4 ∷ 34 shows 4 ∷ 35 shows 4 ∷ 36 shows 5 ∷ 37 shows 2
-    ∷ 38 shows 2 ∷ 39 shows 2 ∷ 40 shows 2 ∷ 41 shows 2 ∷ []
+    1 starts 0 shows 3 ∷ 2 starts 0 shows 3 ∷ 3 starts 2 shows 4 ∷ 4 starts 2 shows 4 ∷ 5 starts 3 shows 3
+    ∷ 6 starts 3 shows 3 ∷ 6 starts 4 shows 3 ∷ 7 starts 4 shows 2 ∷ 8 starts 2 shows 3 ∷ 9 starts 2 shows 3
+    ∷ 10 starts 2 shows 4 ∷ 11 starts 2 shows 2 ∷ 12 starts 0 shows 3 ∷ 13 starts 0 shows 2
+    ∷ 14 starts 4 shows 4 ∷ 15 starts 4 shows 4 ∷ 16 starts 0 shows 19 ∷ 17 starts 1 shows 3
+    ∷ 18 starts 1 shows 3 ∷ 19 starts 3 shows 4 ∷ 20 starts 3 shows 4 ∷ 21 starts 4 shows 3
+    ∷ 22 starts 3 shows 3 ∷ 23 starts 3 shows 3 ∷ 24 starts 2 shows 3 ∷ 25 starts 1 shows 3
+    ∷ 26 starts 2 shows 12 ∷ 27 starts 2 shows 13 ∷ 28 starts 3 shows 11 ∷ 29 starts 2 shows 3
+    ∷ 30 starts 2 shows 2 ∷ 31 starts 2 shows 4 ∷ 32 starts 3 shows 4 ∷ 33 starts 5 shows 4
+    ∷ 34 starts 5 shows 4 ∷ 35 starts 3 shows 4 ∷ 36 starts 4 shows 5 ∷ 37 starts 3 shows 2
+    ∷ 38 starts 1 shows 2 ∷ 39 starts 2 shows 2 ∷ 40 starts 1 shows 2 ∷ 41 starts 3 shows 2 ∷ []
 
 -- every row is there, and each holds
 pub record MarkedCases : Type 0 where

@@ -28,11 +28,11 @@ pub shut-out : ShutOut
 unfolding deviceOf inRange toldOf readingRefusal unitIn ticked tickRefusal tickOf answerAt tableAt codedAnswerAt codedTableAt
 shut-out =
     record {
-      taking = λ every. eqb-false _ _ refl (ap (λ (r : Answer). r .refusal) (every a 0 (codedBy 5) .unknown (λ q. omega (arith, q)) .0));
-      ticking = λ every. eqb-false _ _ refl (ap (λ (r : Answer). r .reading .maxerror .0) (every a 0 (codedBy 3) .known refl .0));
-      storing = λ every. eqb-false _ _ refl (ap (λ (cs : List Clock). clockAt cs 0 .micros .0) (every a 0 (codedBy 0) .known refl .1));
+      taking = λ every. eqb-false _ _ refl (ap (λ (r : Answer). r .refusal) (every a 0 (codedBy 5) (λ q. omega (arith, q)) .0));
+      ticking = λ every. eqb-false _ _ refl (ap (λ (r : Answer). r .reading .maxerror .0) (every a 0 (codedBy 3) refl .0));
+      storing = λ every. eqb-false _ _ refl (ap (λ (cs : List Clock). clockAt cs 0 .micros .0) (every a 0 (codedBy 0) refl .1));
       clearing = λ every.
-          eqb-false _ _ refl (ap (λ (cs : List Clock). clockAt cs 0 .kind) (every b 0 (codedBy 5) .unknown (λ q. omega (arith, q)) .1));
+          eqb-false _ _ refl (ap (λ (cs : List Clock). clockAt cs 0 .kind) (every b 0 (codedBy 5) (λ q. omega (arith, q)) .1));
       clearingKnown = λ every.
-          eqb-false _ _ refl (ap (λ (cs : List Clock). clockAt cs 0 .kind) (every none 0 (codedBy 3) .kept (λ q. omega (arith, q))));
+          eqb-false _ _ refl (ap (λ (cs : List Clock). clockAt cs 0 .kind) (every none 0 (codedBy 3) (λ q. omega (arith, q))));
     }

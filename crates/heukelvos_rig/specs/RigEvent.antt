@@ -59,12 +59,28 @@ theCodedRig = record { answer = codedAnswerAt; left = codedTableAt }
 
 -- A call is that on the rig for the event of its code, so that what is said of those is said of it; or
 -- nothing.
+abbrev pub KnownCalled : CodedRig → List Clock → ℕ → CodedEvent → Type 0
+KnownCalled rig table place e =
+    codeRefusal (e .code) ≡ 0 → (rig .answer table place e ≡ answerAt table place (eventOf e))
+    × (rig .left table place e ≡ tableAt table place (eventOf e))
+
+abbrev pub UnknownRefused : CodedRig → List Clock → ℕ → CodedEvent → Type 0
+UnknownRefused rig table place e =
+    (codeRefusal (e .code) ≡ 0 → ⊥)
+    → (rig .answer table place e ≡ bareAnswer refusedField) × (rig .left table place e ≡ table)
+
+-- "A refused call [..] hands back the clock [..] unchanged": of whatever number, and every clock
+abbrev pub RefusedKeeps : CodedRig → List Clock → ℕ → CodedEvent → Type 0
+RefusedKeeps rig table place e = (rig .answer table place e .refusal ≡ 0 → ⊥) → rig .left table place e ≡ table
+
 pub record CodedCall (rig : CodedRig) (table : List Clock) (place : ℕ) (e : CodedEvent) : Type 0 where
-  pub known : codeRefusal (e .code) ≡ 0
-      → (rig .answer table place e ≡ answerAt table place (eventOf e)) × (rig .left table place e ≡ tableAt table place (eventOf e))
-  pub unknown : (codeRefusal (e .code) ≡ 0 → ⊥) → (rig .answer table place e ≡ bareAnswer refusedField) × (rig .left table place e ≡ table)
-  -- "A refused call [..] hands back the clock [..] unchanged": of whatever number, and every clock
-  pub kept : (rig .answer table place e .refusal ≡ 0 → ⊥) → rig .left table place e ≡ table
+  pub known : KnownCalled rig table place e
+  pub unknown : UnknownRefused rig table place e
+  pub kept : RefusedKeeps rig table place e
+
+-- every call of a rig is so
+abbrev pub EveryCall : (CodedRig → List Clock → ℕ → CodedEvent → Type 0) → CodedRig → Type 0
+EveryCall is rig = (table : List Clock) (place : ℕ) (e : CodedEvent) → is rig table place e
 
 abbrev pub EveryCodedCall : CodedRig → Type 0
-EveryCodedCall rig = (table : List Clock) (place : ℕ) (e : CodedEvent) → CodedCall rig table place e
+EveryCodedCall rig = EveryCall CodedCall rig

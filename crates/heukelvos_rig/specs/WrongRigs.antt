@@ -8,7 +8,8 @@ use Rattle.state.specs.State.{freshClock}
 use Rattle.event.specs.declared.event.Call.the-variants.{Tick}
 use Rattle.event.specs.declared.event.Event.the-variants.{Call}
 use Rattle.rig.specs.Rig.{bareAnswer, answerAt}
-use Rattle.heukelvos_rig.specs.RigEvent.{codeRefusal, eventOf, codedAnswerAt, codedTableAt, CodedRig, EveryCodedCall}
+use Rattle.heukelvos_rig.specs.RigEvent.{codeRefusal, eventOf, codedAnswerAt, codedTableAt, CodedRig}
+use Rattle.heukelvos_rig.specs.RigEvent.{KnownCalled, UnknownRefused, RefusedKeeps, EveryCall}
 
 -- a code that stands for no event is taken for a reading
 abbrev pub takesAnyCode : CodedRig
@@ -36,10 +37,11 @@ clears =
           cond (eqb (codedAnswerAt table place e .refusal) 0) (codedTableAt table place e) (set table place (freshClock kind256));
     }
 
+-- Each fails at the one part of a coded call that is named.
 pub record ShutOut : Type 0 where
-  pub taking : EveryCodedCall takesAnyCode → ⊥
-  pub ticking : EveryCodedCall ticksOnly → ⊥
-  pub storing : EveryCodedCall storesNothing → ⊥
+  pub taking : EveryCall UnknownRefused takesAnyCode → ⊥
+  pub ticking : EveryCall KnownCalled ticksOnly → ⊥
+  pub storing : EveryCall KnownCalled storesNothing → ⊥
   -- where the code is unknown, and where the clock is out of range
-  pub clearing : EveryCodedCall clears → ⊥
-  pub clearingKnown : EveryCodedCall clears → ⊥
+  pub clearing : EveryCall UnknownRefused clears → ⊥
+  pub clearingKnown : EveryCall RefusedKeeps clears → ⊥

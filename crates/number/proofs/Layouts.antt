@@ -18,7 +18,7 @@ use Rattle.number.specs.Reading.{Found, number, refused, numberAt}
 use Rattle.number.specs.Sequence.{then}
 use Rattle.number.specs.Inner.{refusedAs}
 use Rattle.number.specs.Layout.{judgedBy, fieldAt, suits, written, placeAt, Layout, place, whole, Outcome, got, failed, readFrom}
-use Rattle.number.specs.Stopping.{Stops, LayoutExactlyWhen, Outside, FieldExactlyWhen}
+use Rattle.number.specs.Stopping.{Stops, readsLayout, LayoutExactlyWhen, Outside, FieldExactlyWhen}
 use Rattle.number.proofs.Lists.{either}
 use Rattle.number.proofs.WrittenRead.{Holds, written-read}
 use Rattle.number.proofs.Chain.{Ahead, ahead-first, ahead-rest, ahead-end, _◂_, ahead-none}
@@ -291,7 +291,7 @@ module _ {A : Type 0} (s : List ℕ) (r : ℕ) where
       h
   stops-so (whole saved) at h = simp (lt-ltb at (length s) (h .0)) (ap failed (sym (h .1)))
 
-pub layout-exactly-when : LayoutExactlyWhen (λ A l s at. readFrom l s at)
+pub layout-exactly-when : LayoutExactlyWhen readsLayout
 layout-exactly-when A l s at r = record { only = stops s r l at; always = stops-so s r l at }
 
 -- ---- how the reading of a record goes: the laws of `Sequence` at a field, whatever the reader makes of the outcome

@@ -12,7 +12,7 @@ use lib.ListN.{length, getD, drop, set, length-append, drop-of-length-le}
 use lib.Seq.{drop-cons, sets}
 use borrow.Author.Tests.{ltb-true, ltb-false, le-ltb, lt-ltb}
 use Rattle.number.specs.Form.{limit, bytesFrom, bytesOf, bytesOfAll}
-use Rattle.number.specs.Properties.{SizeTable}
+use Rattle.number.specs.Properties.{sizeOf, SizeTable}
 use Rattle.number.proofs.Lists.{either, sets-append}
 
 -- ---- the bytes of a number
@@ -96,7 +96,7 @@ by-limit : (n m : ℕ) {x y z : ℕ} → (n < m → x ≡ y) → (m ≤ n → x 
 by-limit n m f g =
     ⊎-elim (λ (t : ltb n m ≡ true). simp t (f (ltb-true n m t))) (λ (t : ltb n m ≡ false). simp t (g (ltb-false n m t))) (either (ltb n m))
 
-pub size-table : SizeTable (λ n. length (bytesOf n))
+pub size-table : SizeTable sizeOf
 size-table n h =
     by-limit n (2 ^ 7) (size-last n) (λ l1.
     by-limit n (2 ^ 14) (size-exact 1 n (omega arith) l1) (λ l2.

@@ -1,6 +1,6 @@
 -- What holds of every number: the statements that the crate proves of the definitions. Each is said of any
--- reader, or of what a size is told to be, and holds of `numberAt` and of the length of `bytesOf`. Those that
--- they shut out are in `WrongReaders`.
+-- reader, or of what a size is told to be, and holds of `numberAt` and of `sizeOf`. Those that they shut out
+-- are in `WrongReaders`.
 use mathlib.Core.Path.{_≡_}
 use mathlib.Core.Bool.{cond}
 use mathlib.Core.List.{List, _++_}
@@ -42,7 +42,11 @@ Extends read = (s : List ℕ) (at v next : ℕ) → read s at ≡ number v next 
 abbrev pub RefusedOnly : Reader → Type 0
 RefusedOnly read = (s : List ℕ) (at r : ℕ) → read s at ≡ refused r → (r ≡ refusedEnded) ⊎ (r ≡ refusedForm)
 
--- how many bytes a number takes: 1 below 2^7, 2 below 2^14, 3 below 2^21, 4 below 2^28, 5 below 2^35
+-- how many bytes a number takes
+abbrev pub sizeOf : ℕ → ℕ
+sizeOf n = length (bytesOf n)
+
+-- the sizes of numbers: 1 below 2^7, 2 below 2^14, 3 below 2^21, 4 below 2^28, 5 below 2^35
 abbrev pub SizeTable : (ℕ → ℕ) → Type 0
 SizeTable size =
     (n : ℕ) → n < limit

@@ -9,7 +9,7 @@ use Prim.Native.Nat.{ℕ, _<_}
 use lib.ListN.{length}
 use Rattle.state.specs.Refusal.{refusedField, refusedBeyond}
 use Rattle.number.specs.Reading.{Found, number, refused, numberAt}
-use Rattle.number.specs.Layout.{placeAt, Layout, place, whole, Outcome, failed}
+use Rattle.number.specs.Layout.{placeAt, Layout, place, whole, Outcome, failed, readFrom}
 
 -- A reading stops at the first field that fails to read, with that field's number; or at the record's end,
 -- with 13, where more bytes follow.
@@ -23,7 +23,11 @@ Stops (whole saved) s at r = (at < length s) × (r ≡ refusedBeyond)
 abbrev pub LayoutReader : Type 1
 LayoutReader = (A : Type 0) → Layout A → List ℕ → ℕ → Outcome A
 
--- a refusal is given exactly when the reading stops so (`readFrom` does)
+-- by the rules
+abbrev pub readsLayout : LayoutReader
+readsLayout A l s at = readFrom l s at
+
+-- a refusal is given exactly when the reading stops so (`readsLayout` does)
 pub record StopsWhen {A : Type 0} (x : Outcome A) (l : Layout A) (s : List ℕ) (at r : ℕ) : Type 0 where
   pub only : x ≡ failed r → Stops l s at r
   pub always : Stops l s at r → x ≡ failed r

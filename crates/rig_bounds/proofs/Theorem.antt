@@ -12,20 +12,23 @@ use Rattle.state.specs.Device.{kindRange}
 use Rattle.state.specs.State.{freshClock}
 use Rattle.state.specs.declared.state.Clock.{Clock}
 use Rattle.event.specs.Event.{stepOf}
-use Rattle.event.specs.declared.event.Call.the-variants.{Reading}
+use Rattle.event.specs.declared.event.Call.the-variants.{Tick, Reading}
 use Rattle.event.specs.declared.event.Event.{Event}
 use Rattle.event.specs.declared.event.Event.the-variants.{Call}
 use Rattle.bounds.specs.Calls.{afterBy, clockFrom, clockAfter, ticksAmong, neitherSetNorInserted}
 use Rattle.bounds.specs.Singly.{singlyFrom}
 use Rattle.bounds.specs.Measure.{measureOf}
-use Rattle.bounds.specs.Demand.{tells, bookOf, NearExact, FirstBound}
+use Rattle.bounds.specs.Demand.{tells, bookOf, takenOff, NearExact, MovedAsTaken, GoneForward, FirstBound}
 use Rattle.bounds.proofs.Runs.{after-append}
 use Rattle.bounds.proofs.Theorem.{demand3}
 use Rattle.rig.specs.Rig.{tableRefusal, clockAt, answered}
 use Rattle.rig.specs.OneClock.{theRig}
 use Rattle.rig.specs.declared.rig.Answer.{Answer}
 use Rattle.rig.proofs.OneClock.{answer-passed, next-passed, table-kept, others-always-stay}
-use Rattle.rig_bounds.specs.Demand.{RigCall, rigAnswer, tableAfter, clockBefore, clockBehind, reaches, ownEvents, OnlyTheseChange, AsAlone, EachAsAlone, ReadingOf, ReadingsNear, ReadingsForward, Demand3OfEveryRig, PlacedEvent, callsInTurn, OneTable}
+use Rattle.rig_bounds.specs.Demand.{RigCall, rigAnswer, tableAfter, clockBefore, clockBehind, reaches, ownEvents}
+use Rattle.rig_bounds.specs.Demand.{OnlyTheseChange, AsAlone, Each, EachAsAlone, ReadingOf, ReadingAccepted}
+use Rattle.rig_bounds.specs.Demand.{ReadingsNear, MovedAtRollover, ReadingsForward, Demand3OfEveryRig}
+use Rattle.rig_bounds.specs.Demand.{PlacedEvent, callsInTurn, OneTable}
 
 -- ---- one call
 
@@ -120,12 +123,23 @@ module _ (kind : ℕ) (h : kindRange kind ≡ true) (calls : List RigCall) (only
       ∙ ap (λ (v : Event). answered (stepOf (clockAfter kind (ownEvents before)) v)) (r .1)
 
   near-at : (before later : List RigCall) (k : RigCall) → calls ≡ before ++ (k ∷ later) → ReadingOf k
-      → (rigAnswer theRig k .refusal ≡ 0)
-      × NearExact (measureOf kind) (tells (rigAnswer theRig k .reading)) (bookOf kind (ownEvents before))
+      → NearExact (measureOf kind) (tells (rigAnswer theRig k .reading)) (bookOf kind (ownEvents before))
   near-at before later k e r =
-      let p = sym (read before later k e r) in
-      let first = demand3 .fresh kind h (ownEvents before) .first in
-      (subst (λ (a : Answer). a .refusal ≡ 0) p (first .accepted), subst (λ (a : Answer). NearExact (measureOf kind) (tells (a .reading)) (bookOf kind (ownEvents before))) p (first .near))
+      subst (λ (a : Answer). NearExact (measureOf kind) (tells (a .reading)) (bookOf kind (ownEvents before)))
+      (sym (read before later k e r)) (demand3 .fresh kind h (ownEvents before) .first .near)
+
+  accepted : Each (ReadingAccepted theRig) calls
+  accepted before later k e r =
+      let p = ap (λ (a : Answer). a .refusal) (read before later k e r) in
+      cc (p ∙ demand3 .fresh kind h (ownEvents before) .first .accepted)
+
+  moved : Each (MovedAtRollover kind) calls
+  moved before later k e r u =
+      let g = got (freshClock kind) before later k (subst (OnlyTheseChange theRig (freshClock kind)) e only) in
+      let es = ownEvents before ++ (Call Tick ∷ []) in
+      subst
+      (λ (c : Clock). MovedAsTaken (measureOf kind) (bookOf kind es .moved) (takenOff c (bookOf kind (ownEvents before))))
+      (sym g) (demand3 .fresh kind h es .second .single (ownEvents before) [] refl u)
 
   near : ReadingsNear theRig kind calls
   near [] later k e r = near-at [] later k (cc e) r
@@ -159,7 +173,9 @@ module _ (kind : ℕ) (h : kindRange kind ≡ true) (calls : List RigCall) (only
     Gone : Clock → Type 0
     Gone c =
         let es = singlyFrom c (ownEvents between) in
-        neitherSetNorInserted c es ≡ true → tells (rigAnswer theRig j .reading) + measureOf kind .least * ticksAmong c es ≤ tells (rigAnswer theRig k .reading)
+        neitherSetNorInserted c es ≡ true
+        → GoneForward (measureOf kind) (ticksAmong c es) (tells (rigAnswer theRig j .reading))
+        (tells (rigAnswer theRig k .reading))
 
     gone : Gone (clockAfter kind (ownEvents before ++ (Call Reading ∷ [])))
     unfolding Gone
@@ -186,7 +202,9 @@ demand3-of-rig =
           record {
             demand = demand3 .fresh kind h _;
             alone = each-as-alone (freshClock kind) calls only;
+            accepted = accepted kind h calls only;
             near = near kind h calls only;
+            moved = moved kind h calls only;
             forward = forward kind h calls only;
           };
       set = λ c calls only s u events e t.

@@ -37,7 +37,8 @@ of-two-recorders =
     record {
       demand = second .demand .third [] (Call Tick ∷ []) [] refl refl;
       forward = second .forward (_ ∷ []) (_ ∷ _ ∷ _ ∷ []) [] _ _ refl (refl, refl) (refl, refl) refl;
-      near = second .near (_ ∷ _ ∷ _ ∷ _ ∷ _ ∷ []) [] _ refl (refl, refl) .1;
+      reading = second .accepted (_ ∷ _ ∷ _ ∷ _ ∷ _ ∷ []) [] _ refl (refl, refl);
+      near = second .near (_ ∷ _ ∷ _ ∷ _ ∷ _ ∷ []) [] _ refl (refl, refl);
       alone = second .alone (_ ∷ _ ∷ _ ∷ _ ∷ _ ∷ []) [] _ refl .left;
       accepted = first .first .accepted;
       aloneToo = first .alone (_ ∷ _ ∷ _ ∷ _ ∷ _ ∷ []) [] _ refl .left;

@@ -50,9 +50,10 @@ ofSecond = Call Reading ∷ Call Tick ∷ Call Reading ∷ []
 
 pub record OfTwoRecorders : Type 0 where
   -- the second, lent fresh: 976 us or more for its one tick, on a clock by itself and by what the rig
-  -- answers; near the exact time; and the clock that is left is that of its own events
+  -- answers; accepted and near the exact time; and the clock that is left is that of its own events
   pub demand : toldAfter stepOf kind1024 [] + 976 ≤ toldAfter stepOf kind1024 (Call Reading ∷ Call Tick ∷ [])
   pub forward : tells (readAfter untilFirstReading .reading) + 976 ≤ tells (readAfter untilSecondReading .reading)
+  pub reading : readAfter untilSecondReading .refusal ≡ 0
   pub near :
       NearExact (measureOf kind1024) (tells (readAfter untilSecondReading .reading))
       (bookOf kind1024 (Call Reading ∷ Call Tick ∷ []))
