@@ -3,6 +3,7 @@ use mathlib.Core.Path.{_≡_, refl, sym, ap}
 use mathlib.Core.Bool.{true, false, true≢false}
 use mathlib.Core.List.{List, [], _∷_}
 use Prim.Native.Nat.{ℕ}
+use native.Mathlib.Omega.{arith}
 use lib.Dec.{eqb}
 use lib.IntN.{pos, natAbs}
 use borrow.Author.Tests.{eqb-false, ltb-true}
@@ -17,16 +18,19 @@ use Rattle.state.specs.declared.state.Clock.{Clock}
 use Rattle.state.specs.declared.units.AskedMicros.{AskedMicros}
 use Rattle.request.specs.Request.{requestRefusal, requested, requestOf}
 use Rattle.request.specs.declared.request.Request as asked
-use Rattle.event.specs.declared.event.Call.the-variants.{Tick, Request}
+use Rattle.event.specs.Event.{answerOf}
+use Rattle.event.specs.declared.event.Call.the-variants.{Tick, Request, Reading}
 use Rattle.event.specs.declared.event.Event.{Event}
 use Rattle.event.specs.declared.event.Event.the-variants.{Call, CatchUp}
-use Rattle.cases.specs.Cases.{given, _≔_, _≔ℤ_, kind, micros, frequency, left, requestFor}
+use Rattle.event.specs.declared.event.Stepped.{Stepped}
+use Rattle.cases.specs.Cases.{given, _≔_, _≔ℤ_, kind, seconds, micros, frequency, left, requestFor}
 use Rattle.bounds.specs.Calls.{Answers, afterBy, countAmongBy, noneAmongBy}
 use Rattle.bounds.specs.Singly.{singleTicks, singlyFrom, asEvents}
 use Rattle.bounds.specs.Book.{bookFrom}
 use Rattle.bounds.specs.Measure.{measureOf}
 use Rattle.bounds.specs.Interval.{sinceFrom}
-use Rattle.bounds.specs.MadeSingly.{Ticked, MadeSinglyBy}
+use Rattle.bounds.specs.MadeSingly.{EndsAt, atCeiling, atRollover, atRefusal}
+use Rattle.bounds.specs.MadeSingly.{Ticked, Untouched, MadeSinglyBy}
 use Rattle.bounds.specs.WrongClocks.{asked}
 use Rattle.bounds.specs.OtherWrongClocks.{AlsoShutOutOfEachKind}
 use Rattle.bounds.proofs.ShutOut.{not-below, not-most}
@@ -37,6 +41,10 @@ not-same {a} {b} e h = eqb-false a b e h
 -- clocks of a kind: at these microseconds; with an offset left; with a frequency
 abbrev at : ℕ → ℕ → Clock
 at k u = given (kind ≔ k ∷ micros ≔ u ∷ [])
+
+-- where a tick would roll over from the last second
+abbrev atLast : ℕ → Clock
+atLast k = given (kind ≔ k ∷ seconds ≔ 4294967295 ∷ micros ≔ 999999 ∷ [])
 
 abbrev offsetLeft : ℕ → Clock
 offsetLeft k = given (kind ≔ k ∷ left ≔ℤ pos 1 ∷ [])
@@ -60,6 +68,27 @@ caught : {answers : Answers} → MadeSinglyBy answers → (c : Clock) (ceiling :
 unfolding afterBy singlyFrom
 caught d c ceiling h = d c (CatchUp ceiling true ∷ []) .each [] [] (CatchUp ceiling true) refl .answered .0 h
 
+-- .. of a catch-up that is refused for its ceiling
+refused : {answers : Answers} → MadeSinglyBy answers → (c : Clock)
+    → (answers c (CatchUp 65537 true) .refusal ≡ 0 → ⊥) → Untouched c (answers c (CatchUp 65537 true))
+unfolding afterBy singlyFrom
+refused d c h = d c (CatchUp 65537 true ∷ []) .each [] [] (CatchUp 65537 true) refl .answered .1 h
+
+-- .. of a reading
+read : {answers : Answers} → MadeSinglyBy answers → (c : Clock) → answers c (Call Reading) ≡ answerOf c Reading
+unfolding afterBy singlyFrom
+read d c = d c (Call Reading ∷ []) .each [] [] (Call Reading) refl .answered
+
+-- no end of a catch-up that has made none of its ticks and tells no refusal
+no-end : (c : Clock) (a : Stepped) → a .count ≡ 0 → a .«tick_refusal» ≡ 0 → EndsAt c 1 true a → ⊥
+no-end c a n z (atCeiling e y) = omega (arith, n, e)
+no-end c a n z (atRollover s j e o y) = omega (arith, n, e)
+no-end c a n z (atRefusal l e y) = omega (arith, z, y)
+
+-- the maximum error that is read (us)
+abbrev readError : Stepped → ℕ
+readError a = a .reading .maxerror .0
+
 pub also-shut-out : AlsoShutOutOfEachKind
 unfolding deviceOf measureOf inRange toldOf readingRefusal rolledOver unitIn ticked tickRefusal tickOf
     ranOf catchUpOf settingRefusal settingOf requestRefusal requested requestOf afterBy countAmongBy
@@ -76,6 +105,12 @@ also-shut-out = (
         not-same refl (ap (λ (c : Clock). c .micros .0) (d (at kind256 0) (CatchUp 1 false ∷ []) .clock));
     each = λ d. true≢false (caught d (at kind256 999999) 2 refl .onward 0 (ltb-true 1 2 refl));
     most = λ d. not-most refl (caught d (at kind256 996093) 1 refl .most);
+    answered = λ d. not-same refl (ap readError (read d (at kind256 0)));
+    hidden = λ d. no-end _ _ refl refl (caught d (atLast kind256) 1 refl .ends);
+    refusedCount = λ d. not-same refl (refused d (at kind256 0) (not-same refl) .count);
+    refusedTick = λ d. not-same refl (refused d (at kind256 0) (not-same refl) .tickRefusal);
+    refusedClock = λ d.
+        not-same refl (ap (λ (c : Clock). c .micros .0) (refused d (at kind256 0) (not-same refl) .clock));
     second = λ d. not-most refl (d (at kind256 999999) [] refl refl refl .least);
     interval = λ d. not-same refl (ap (λ (u : Update). u .interval) (d kind256 (asked (Call Tick ∷ []))));
     soon = λ d. true≢false (sym (d kind256 (Call (Request offset) ∷ []) offset));
@@ -94,6 +129,12 @@ also-shut-out = (
         not-same refl (ap (λ (c : Clock). c .micros .0) (d (at kind1024 0) (CatchUp 1 false ∷ []) .clock));
     each = λ d. true≢false (caught d (at kind1024 999999) 2 refl .onward 0 (ltb-true 1 2 refl));
     most = λ d. not-most refl (caught d (at kind1024 999023) 1 refl .most);
+    answered = λ d. not-same refl (ap readError (read d (at kind1024 0)));
+    hidden = λ d. no-end _ _ refl refl (caught d (atLast kind1024) 1 refl .ends);
+    refusedCount = λ d. not-same refl (refused d (at kind1024 0) (not-same refl) .count);
+    refusedTick = λ d. not-same refl (refused d (at kind1024 0) (not-same refl) .tickRefusal);
+    refusedClock = λ d.
+        not-same refl (ap (λ (c : Clock). c .micros .0) (refused d (at kind1024 0) (not-same refl) .clock));
     second = λ d. not-most refl (d (at kind1024 999999) [] refl refl refl .least);
     interval = λ d. not-same refl (ap (λ (u : Update). u .interval) (d kind1024 (asked (Call Tick ∷ []))));
     soon = λ d. true≢false (sym (d kind1024 (Call (Request offset) ∷ []) offset));

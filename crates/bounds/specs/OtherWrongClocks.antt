@@ -13,6 +13,7 @@ use Rattle.state.specs.declared.units.PhaseUnits.{PhaseUnits}
 use Rattle.state.specs.declared.units.PhaseParts.{PhaseParts}
 use Rattle.event.specs.Event.{answerOf, stepOf}
 use Rattle.event.specs.declared.event.Call.{Call as Single}
+use Rattle.event.specs.declared.event.Call.the-variants.{Tick}
 use Rattle.event.specs.declared.event.Event.the-variants.{Call, CatchUp}
 use Rattle.event.specs.declared.event.Stepped.{Stepped}
 use Rattle.bounds.specs.Calls.{Answers, ticks, sets, rolls}
@@ -84,18 +85,46 @@ countsNoRollover = callLeaves rolls (λ got left. updated (updateOf got) left)
 abbrev pub holdsNoUpdate : Answers
 holdsNoUpdate = callLeaves (λ c e. true) (λ got left. updated noUpdate left)
 
--- a catch-up tells its ceiling as its count
-abbrev pub tellsCeiling : Answers
-tellsCeiling c (Call e) = stepOf c (Call e)
-tellsCeiling c (CatchUp ceiling stop) =
-    let a = stepOf c (CatchUp ceiling stop) in
+-- the rules, but that a catch-up answers otherwise: f of the clock that it got, of its ceiling and of what it
+-- should answer
+abbrev pub catchUpAnswers : (Clock → ℕ → Stepped → Stepped) → Answers
+catchUpAnswers f c (Call e) = stepOf c (Call e)
+catchUpAnswers f c (CatchUp ceiling stop) = f c ceiling (stepOf c (CatchUp ceiling stop))
+
+-- an answer, but for its count and the refusal of its last tick
+abbrev pub counting : ℕ → ℕ → Stepped → Stepped
+counting n refused a =
     record {
       refusal = a .refusal;
-      count = ceiling;
-      «tick_refusal» = a .«tick_refusal»;
+      count = n;
+      «tick_refusal» = refused;
       clock = a .clock;
       reading = a .reading;
     }
+
+-- a catch-up tells its ceiling as its count
+abbrev pub tellsCeiling : Answers
+tellsCeiling = catchUpAnswers (λ c ceiling a. counting ceiling (a .«tick_refusal») a)
+
+-- a catch-up never tells that a tick was refused
+abbrev pub hidesRefusal : Answers
+hidesRefusal = catchUpAnswers (λ c ceiling a. counting (a .count) 0 a)
+
+-- the rules, but that a catch-up that is refused answers otherwise
+abbrev pub refusedAnswers : (Clock → ℕ → Stepped → Stepped) → Answers
+refusedAnswers f = catchUpAnswers (λ c ceiling a. cond (eqb (a .refusal) 0) a (f c ceiling a))
+
+-- a catch-up that is refused tells its ceiling as its count
+abbrev pub countsRefused : Answers
+countsRefused = refusedAnswers (λ c ceiling a. counting ceiling (a .«tick_refusal») a)
+
+-- a catch-up that is refused tells its own refusal as that of a tick too
+abbrev pub blamesTick : Answers
+blamesTick = refusedAnswers (λ c ceiling a. counting (a .count) (a .refusal) a)
+
+-- a catch-up that is refused makes a tick
+abbrev pub ticksRefused : Answers
+ticksRefused = refusedAnswers (λ c ceiling a. leaving (answerOf c Tick .clock) a)
 
 -- a catch-up goes on for a tick past its ceiling
 abbrev pub overruns : Answers
@@ -119,6 +148,11 @@ pub record AlsoShutOut (kind : ℕ) : Type 0 where
   pub clock : MadeSinglyBy (onKind kind stepOf countsOnly) → ⊥
   pub each : MadeSinglyBy (onKind kind stepOf tellsCeiling) → ⊥
   pub most : MadeSinglyBy (onKind kind stepOf overruns) → ⊥
+  pub answered : MadeSinglyBy (onKind kind stepOf readsZero) → ⊥
+  pub hidden : MadeSinglyBy (onKind kind stepOf hidesRefusal) → ⊥
+  pub refusedCount : MadeSinglyBy (onKind kind stepOf countsRefused) → ⊥
+  pub refusedTick : MadeSinglyBy (onKind kind stepOf blamesTick) → ⊥
+  pub refusedClock : MadeSinglyBy (onKind kind stepOf ticksRefused) → ⊥
   pub second : TicksOfASecondBy (onKind kind answerOf lingers) → ⊥
   pub interval : IntervalBy (onKind kind stepOf countsNoRollover) → ⊥
   pub soon : TooSoonBy (onKind kind stepOf holdsNoUpdate) → ⊥
