@@ -1,7 +1,7 @@
 -- The other wrong clocks lack the promises that they are named for: each at one list, computed.
 use mathlib.Core.Path.{_≡_, refl, sym, ap}
 use mathlib.Core.Bool.{true, false, true≢false}
-use mathlib.Core.List.{List, [], _∷_}
+use mathlib.Core.List.{List, [], _∷_, _++_}
 use Prim.Native.Nat.{ℕ}
 use native.Mathlib.Omega.{arith}
 use lib.Dec.{eqb}
@@ -62,6 +62,13 @@ offset = requestFor 1 (pos 1000) 0
 abbrev twoOffsets : List Event
 twoOffsets = Call (Request offset) ∷ Call (Request offset) ∷ []
 
+-- a rollover, and some ticks more
+abbrev rollover : ℕ → List Event
+rollover n = Call Tick ∷ CatchUp n false ∷ []
+
+abbrev offsetsAround : List Event → List Event
+offsetsAround between = Call (Request offset) ∷ (between ++ (Call (Request offset) ∷ []))
+
 -- what is promised of a catch-up that stops at a rollover, as the only event of a list
 caught : {answers : Answers} → MadeSinglyBy answers → (c : Clock) (ceiling : ℕ)
     → answers c (CatchUp ceiling true) .refusal ≡ 0 → Ticked c ceiling true (answers c (CatchUp ceiling true))
@@ -117,6 +124,10 @@ also-shut-out = (
     apart = λ d.
         not-most refl
         (d (at kind256 0) twoOffsets [] [] [] offset offset refl refl refl refl);
+    apartLater = λ d.
+        not-most refl
+        (d (at kind256 999999) (offsetsAround (rollover 0)) [] (rollover 0) [] offset offset
+        refl refl refl refl);
   },
   record {
     fresh = λ d. not-below refl (d .fresh kind1024 refl (Call Tick ∷ []) .first .near);
@@ -141,5 +152,9 @@ also-shut-out = (
     apart = λ d.
         not-most refl
         (d (at kind1024 0) twoOffsets [] [] [] offset offset refl refl refl refl);
+    apartLater = λ d.
+        not-most refl
+        (d (at kind1024 999999) (offsetsAround (rollover 0)) [] (rollover 0) [] offset offset
+        refl refl refl refl);
   },
 )

@@ -81,6 +81,10 @@ aheadAlways = reads (λ c r. oneMicroMore r)
 abbrev pub countsNoRollover : Answers
 countsNoRollover = callLeaves rolls (λ got left. updated (updateOf got) left)
 
+-- a rollover leaves no earlier update
+abbrev pub forgetsAtRollover : Answers
+forgetsAtRollover = callLeaves rolls (λ got left. updated noUpdate left)
+
 -- no call leaves an earlier update
 abbrev pub holdsNoUpdate : Answers
 holdsNoUpdate = callLeaves (λ c e. true) (λ got left. updated noUpdate left)
@@ -157,6 +161,7 @@ pub record AlsoShutOut (kind : ℕ) : Type 0 where
   pub interval : IntervalBy (onKind kind stepOf countsNoRollover) → ⊥
   pub soon : TooSoonBy (onKind kind stepOf holdsNoUpdate) → ⊥
   pub apart : OffsetsApartBy (onKind kind stepOf holdsNoUpdate) → ⊥
+  pub apartLater : OffsetsApartBy (onKind kind stepOf forgetsAtRollover) → ⊥
 
 abbrev pub AlsoShutOutOfEachKind : Type 0
 AlsoShutOutOfEachKind = AlsoShutOut kind256 × AlsoShutOut kind1024
