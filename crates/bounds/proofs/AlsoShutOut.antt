@@ -119,6 +119,7 @@ also-shut-out = (
     refusedClock = λ d.
         not-same refl (ap (λ (c : Clock). c .micros .0) (refused d (at kind256 0) (not-same refl) .clock));
     second = λ d. not-most refl (d (at kind256 999999) [] refl refl refl .least);
+    longSecond = λ d. not-most refl (d (at kind256 999999) (singleTicks 257) refl refl refl .most);
     interval = λ d. not-same refl (ap (λ (u : Update). u .interval) (d kind256 (asked (Call Tick ∷ []))));
     soon = λ d. true≢false (sym (d kind256 (Call (Request offset) ∷ []) offset));
     apart = λ d.
@@ -147,6 +148,7 @@ also-shut-out = (
     refusedClock = λ d.
         not-same refl (ap (λ (c : Clock). c .micros .0) (refused d (at kind1024 0) (not-same refl) .clock));
     second = λ d. not-most refl (d (at kind1024 999999) [] refl refl refl .least);
+    longSecond = λ d. not-most refl (d (at kind1024 999999) (singleTicks 1025) refl refl refl .most);
     interval = λ d. not-same refl (ap (λ (u : Update). u .interval) (d kind1024 (asked (Call Tick ∷ []))));
     soon = λ d. true≢false (sym (d kind1024 (Call (Request offset) ∷ []) offset));
     apart = λ d.

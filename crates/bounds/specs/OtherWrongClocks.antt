@@ -1,16 +1,17 @@
 -- Clocks that the other promises over lists shut out, and the quantifiers of demand 3 itself: for each
 -- promise a clock that is wrong in the way that it speaks of, on the devices of one kind alone.
-use Prim.Native.Nat.{ℕ, _+_}
+use Prim.Native.Nat.{ℕ, _+_, _-_}
 use mathlib.Core.Bool.{true, _&&_, not, cond}
 use lib.Dec.{eqb}
 use lib.IntN.{pos, natAbs}
-use Rattle.state.specs.Units.{micros, phaseParts}
-use Rattle.state.specs.Device.{kind256, kind1024}
+use Rattle.state.specs.Units.{micros, phaseParts, microsPerSecond}
+use Rattle.state.specs.Device.{kind256, kind1024, deviceOf}
 use Rattle.state.specs.State.{Moment, Update, timeOf, correctionOf, tuningOf, updateOf, errorsOf, whole}
 use Rattle.state.specs.State.{noUpdate, lastMicro}
 use Rattle.state.specs.declared.state.Clock.{Clock}
 use Rattle.state.specs.declared.units.PhaseUnits.{PhaseUnits}
 use Rattle.state.specs.declared.units.PhaseParts.{PhaseParts}
+use Rattle.clock.specs.Tick.{rollsOver}
 use Rattle.event.specs.Event.{answerOf, stepOf}
 use Rattle.event.specs.declared.event.Call.{Call as Single}
 use Rattle.event.specs.declared.event.Call.the-variants.{Tick}
@@ -142,6 +143,17 @@ lingers c e =
     let d = a .clock in
     leaving (cond (rolls c e) (timed (timeFrom (d .seconds) lastMicro (d .phase) (d .leftover)) d) d) a
 
+-- a rollover leaves the clock near the end of its second, and each other tick moves it by a microsecond alone,
+-- so that it takes two ticks more than its rate to roll over again
+abbrev pub dawdles : Clock → Single → Stepped
+dawdles c e =
+    let a = answerOf c e in
+    let d = a .clock in
+    let device = deviceOf (c .kind) in
+    let late = microsPerSecond - (device .tick .0 + device .rate + 1) in
+    let u = cond (rollsOver c) late (c .micros .0 + 1) in
+    leaving (cond (ticks c e) (timed (timeFrom (d .seconds) u (c .phase) (c .leftover)) d) d) a
+
 -- none of them keeps the promise that it is named for
 pub record AlsoShutOut (kind : ℕ) : Type 0 where
   pub fresh : Demand3By (onKind kind stepOf readsZero) → ⊥
@@ -158,6 +170,7 @@ pub record AlsoShutOut (kind : ℕ) : Type 0 where
   pub refusedTick : MadeSinglyBy (onKind kind stepOf blamesTick) → ⊥
   pub refusedClock : MadeSinglyBy (onKind kind stepOf ticksRefused) → ⊥
   pub second : TicksOfASecondBy (onKind kind answerOf lingers) → ⊥
+  pub longSecond : TicksOfASecondBy (onKind kind answerOf dawdles) → ⊥
   pub interval : IntervalBy (onKind kind stepOf countsNoRollover) → ⊥
   pub soon : TooSoonBy (onKind kind stepOf holdsNoUpdate) → ⊥
   pub apart : OffsetsApartBy (onKind kind stepOf holdsNoUpdate) → ⊥
