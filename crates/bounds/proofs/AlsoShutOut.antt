@@ -23,10 +23,11 @@ use Rattle.event.specs.declared.event.Call.the-variants.{Tick, Request, Reading
 use Rattle.event.specs.declared.event.Event.{Event}
 use Rattle.event.specs.declared.event.Event.the-variants.{Call, CatchUp}
 use Rattle.event.specs.declared.event.Stepped.{Stepped}
-use Rattle.cases.specs.Cases.{given, _≔_, _≔ℤ_, kind, seconds, micros, frequency, left, requestFor}
+use Rattle.cases.specs.Cases.{given, _≔_, _≔ℤ_, kind, seconds, micros, frequency, left, requestFor, set}
 use Rattle.bounds.specs.Calls.{Answers, afterBy, countAmongBy, noneAmongBy}
 use Rattle.bounds.specs.Singly.{singleTicks, singlyFrom, asEvents}
 use Rattle.bounds.specs.Book.{bookFrom}
+use Rattle.bounds.specs.BookTicks.{ticksSinceSetting}
 use Rattle.bounds.specs.Measure.{measureOf}
 use Rattle.bounds.specs.Interval.{sinceFrom}
 use Rattle.bounds.specs.MadeSingly.{EndsAt, atCeiling, atRollover, atRefusal}
@@ -99,7 +100,7 @@ readError a = a .reading .maxerror .0
 pub also-shut-out : AlsoShutOutOfEachKind
 unfolding deviceOf measureOf inRange toldOf readingRefusal rolledOver unitIn ticked tickRefusal tickOf
     ranOf catchUpOf settingRefusal settingOf requestRefusal requested requestOf afterBy countAmongBy
-    noneAmongBy singleTicks singlyFrom asEvents bookFrom sinceFrom
+    noneAmongBy singleTicks singlyFrom asEvents bookFrom ticksSinceSetting sinceFrom
 also-shut-out = (
   record {
     fresh = λ d. not-below refl (d .fresh kind256 refl (Call Tick ∷ []) .first .near);
@@ -120,6 +121,8 @@ also-shut-out = (
         not-same refl (ap (λ (c : Clock). c .micros .0) (refused d (at kind256 0) (not-same refl) .clock));
     second = λ d. not-most refl (d (at kind256 999999) [] refl refl refl .least);
     longSecond = λ d. not-most refl (d (at kind256 999999) (singleTicks 257) refl refl refl .most);
+    ticksPast = λ d. not-same refl (d (at kind256 0) (Call Tick ∷ Call (set 5 0) ∷ []));
+    ticksRefused = λ d. not-same refl (d (atLast kind256) (Call Tick ∷ []));
     interval = λ d. not-same refl (ap (λ (u : Update). u .interval) (d kind256 (asked (Call Tick ∷ []))));
     soon = λ d. true≢false (sym (d kind256 (Call (Request offset) ∷ []) offset));
     apart = λ d.
@@ -149,6 +152,8 @@ also-shut-out = (
         not-same refl (ap (λ (c : Clock). c .micros .0) (refused d (at kind1024 0) (not-same refl) .clock));
     second = λ d. not-most refl (d (at kind1024 999999) [] refl refl refl .least);
     longSecond = λ d. not-most refl (d (at kind1024 999999) (singleTicks 1025) refl refl refl .most);
+    ticksPast = λ d. not-same refl (d (at kind1024 0) (Call Tick ∷ Call (set 5 0) ∷ []));
+    ticksRefused = λ d. not-same refl (d (atLast kind1024) (Call Tick ∷ []));
     interval = λ d. not-same refl (ap (λ (u : Update). u .interval) (d kind1024 (asked (Call Tick ∷ []))));
     soon = λ d. true≢false (sym (d kind1024 (Call (Request offset) ∷ []) offset));
     apart = λ d.

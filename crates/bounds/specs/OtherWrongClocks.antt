@@ -17,8 +17,10 @@ use Rattle.event.specs.declared.event.Call.{Call as Single}
 use Rattle.event.specs.declared.event.Call.the-variants.{Tick}
 use Rattle.event.specs.declared.event.Event.the-variants.{Call, CatchUp}
 use Rattle.event.specs.declared.event.Stepped.{Stepped}
-use Rattle.bounds.specs.Calls.{Answers, ticks, sets, rolls}
+use Rattle.bounds.specs.Calls.{Answers, isTick, ticks, sets, rolls, countAmong, ticksAmong}
+use Rattle.bounds.specs.Singly.{singlyFrom}
 use Rattle.bounds.specs.Demand.{Demand3By}
+use Rattle.bounds.specs.BookTicks.{Counts, bookTicks, TicksSinceSettingBy}
 use Rattle.bounds.specs.Lossless.{NothingLostBy}
 use Rattle.bounds.specs.MadeSingly.{MadeSinglyBy}
 use Rattle.bounds.specs.Seconds.{TicksOfASecondBy}
@@ -143,8 +145,8 @@ lingers c e =
     let d = a .clock in
     leaving (cond (rolls c e) (timed (timeFrom (d .seconds) lastMicro (d .phase) (d .leftover)) d) d) a
 
--- a rollover leaves the clock near the end of its second, and each other tick moves it by a microsecond alone,
--- so that it takes two ticks more than its rate to roll over again
+-- a rollover leaves the clock near the end of its second, and each other tick moves it by a microsecond, so
+-- that it takes two ticks more than its rate to roll over again
 abbrev pub dawdles : Clock → Single → Stepped
 dawdles c e =
     let a = answerOf c e in
@@ -153,6 +155,19 @@ dawdles c e =
     let late = microsPerSecond - (device .tick .0 + device .rate + 1) in
     let u = cond (rollsOver c) late (c .micros .0 + 1) in
     leaving (cond (ticks c e) (timed (timeFrom (d .seconds) u (c .phase) (c .leftover)) d) d) a
+
+-- wrong of clocks of a kind, and the book's n of others
+abbrev pub countsOnKind : ℕ → Counts → Counts
+countsOnKind kind wrong start events =
+    cond (eqb (start .kind) kind) (wrong start events) (bookTicks start events)
+
+-- all accepted ticks, those before an accepted setting too
+abbrev pub pastSetting : Counts
+pastSetting start events = ticksAmong start (singlyFrom start events)
+
+-- all ticks, refused ones too
+abbrev pub withRefused : Counts
+withRefused start events = countAmong (λ c e. isTick e) start (singlyFrom start events)
 
 -- none of them keeps the promise that it is named for
 pub record AlsoShutOut (kind : ℕ) : Type 0 where
@@ -171,6 +186,8 @@ pub record AlsoShutOut (kind : ℕ) : Type 0 where
   pub refusedClock : MadeSinglyBy (onKind kind stepOf ticksRefused) → ⊥
   pub second : TicksOfASecondBy (onKind kind answerOf lingers) → ⊥
   pub longSecond : TicksOfASecondBy (onKind kind answerOf dawdles) → ⊥
+  pub ticksPast : TicksSinceSettingBy (countsOnKind kind pastSetting) → ⊥
+  pub ticksRefused : TicksSinceSettingBy (countsOnKind kind withRefused) → ⊥
   pub interval : IntervalBy (onKind kind stepOf countsNoRollover) → ⊥
   pub soon : TooSoonBy (onKind kind stepOf holdsNoUpdate) → ⊥
   pub apart : OffsetsApartBy (onKind kind stepOf holdsNoUpdate) → ⊥
