@@ -23,7 +23,8 @@ use Rattle.event.specs.declared.event.Call.the-variants.{Tick, Request, Reading
 use Rattle.event.specs.declared.event.Event.{Event}
 use Rattle.event.specs.declared.event.Event.the-variants.{Call, CatchUp}
 use Rattle.event.specs.declared.event.Stepped.{Stepped}
-use Rattle.cases.specs.Cases.{given, _≔_, _≔ℤ_, kind, seconds, micros, frequency, left, requestFor, set}
+use Rattle.cases.specs.Cases.{given, _≔_, _≔ℤ_, kind, seconds, micros, frequency, left, requestFor}
+use Rattle.cases.specs.Cases.{asks, set}
 use Rattle.bounds.specs.Calls.{Answers, afterBy, countAmongBy, noneAmongBy}
 use Rattle.bounds.specs.Singly.{singleTicks, singlyFrom, asEvents}
 use Rattle.bounds.specs.Book.{bookFrom}
@@ -70,6 +71,10 @@ rollover n = Call Tick ∷ CatchUp n false ∷ []
 abbrev offsetsAround : List Event → List Event
 offsetsAround between = Call (Request offset) ∷ (between ++ (Call (Request offset) ∷ []))
 
+-- two readings, between which the status does not stay BAD
+abbrev readTwice : List Event
+readTwice = Call (set 5 0) ∷ Call Reading ∷ Call (asks (pos 0)) ∷ Call Reading ∷ []
+
 -- what is promised of a catch-up that stops at a rollover, as the only event of a list
 caught : {answers : Answers} → MadeSinglyBy answers → (c : Clock) (ceiling : ℕ)
     → answers c (CatchUp ceiling true) .refusal ≡ 0 → Ticked c ceiling true (answers c (CatchUp ceiling true))
@@ -103,7 +108,9 @@ unfolding deviceOf measureOf inRange toldOf readingRefusal rolledOver unitIn tic
     noneAmongBy singleTicks singlyFrom asEvents bookFrom ticksSinceSetting sinceFrom
 also-shut-out = (
   record {
-    fresh = λ d. not-below refl (d .fresh kind256 refl (Call Tick ∷ []) .first .near);
+    fresh = λ d.
+        not-most refl
+        (d .fresh kind256 refl readTwice .third (Call (set 5 0) ∷ []) (Call (asks (pos 0)) ∷ []) [] refl refl);
     set = λ d. not-below refl (d .set (offsetLeft kind256) 5 (askedMicros 0) [] refl .near);
     held = λ d.
         not-same refl (ap natAbs (d .set (faster kind256) 5 (askedMicros 0) (Call Tick ∷ []) refl .held));
@@ -134,7 +141,9 @@ also-shut-out = (
         refl refl refl refl);
   },
   record {
-    fresh = λ d. not-below refl (d .fresh kind1024 refl (Call Tick ∷ []) .first .near);
+    fresh = λ d.
+        not-most refl
+        (d .fresh kind1024 refl readTwice .third (Call (set 5 0) ∷ []) (Call (asks (pos 0)) ∷ []) [] refl refl);
     set = λ d. not-below refl (d .set (offsetLeft kind1024) 5 (askedMicros 0) [] refl .near);
     held = λ d.
         not-same refl (ap natAbs (d .set (faster kind1024) 5 (askedMicros 0) (Call Tick ∷ []) refl .held));

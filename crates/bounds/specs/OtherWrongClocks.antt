@@ -7,7 +7,7 @@ use lib.IntN.{pos, natAbs}
 use Rattle.state.specs.Units.{micros, phaseParts, microsPerSecond}
 use Rattle.state.specs.Device.{kind256, kind1024, deviceOf}
 use Rattle.state.specs.State.{Moment, Update, timeOf, correctionOf, tuningOf, updateOf, errorsOf, whole}
-use Rattle.state.specs.State.{noUpdate, lastMicro}
+use Rattle.state.specs.State.{noUpdate, lastMicro, statusBad}
 use Rattle.state.specs.declared.state.Clock.{Clock}
 use Rattle.state.specs.declared.units.PhaseUnits.{PhaseUnits}
 use Rattle.state.specs.declared.units.PhaseParts.{PhaseParts}
@@ -79,6 +79,16 @@ dropsLeftover =
 -- the clock holds its time, and each reading tells a microsecond more
 abbrev pub aheadAlways : Answers
 aheadAlways = reads (λ c r. oneMicroMore r)
+
+-- a reading tells a microsecond more as long as the status is BAD and the time a whole number of them: so it
+-- is off by one alone, as the first bound allows, and the third bound fails once the status is no longer BAD
+abbrev pub aheadWhileWhole : Answers
+aheadWhileWhole =
+    reads
+    (λ c r.
+    cond (eqb (c .status) statusBad && eqb (natAbs (c .phase .0)) 0 && eqb (natAbs (c .leftover .0)) 0)
+    (oneMicroMore r)
+    r)
 
 -- rollovers are not counted
 abbrev pub countsNoRollover : Answers
@@ -171,7 +181,7 @@ withRefused start events = countAmong (λ c e. isTick e) start (singlyFrom start
 
 -- none of them keeps the promise that it is named for
 pub record AlsoShutOut (kind : ℕ) : Type 0 where
-  pub fresh : Demand3By (onKind kind stepOf readsZero) → ⊥
+  pub fresh : Demand3By (onKind kind stepOf aheadWhileWhole) → ⊥
   pub set : Demand3By (onKind kind stepOf setsLate) → ⊥
   pub held : NothingLostBy (onKind kind stepOf dropsLeftover) → ⊥
   pub near : NothingLostBy (onKind kind stepOf aheadAlways) → ⊥
