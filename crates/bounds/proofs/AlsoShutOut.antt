@@ -88,7 +88,8 @@ unfolding afterBy singlyFrom
 refused d c h = d c (CatchUp 65537 true ∷ []) .each [] [] (CatchUp 65537 true) refl .answered .1 h
 
 -- .. of a reading
-read : {answers : Answers} → MadeSinglyBy answers → (c : Clock) → answers c (Call Reading) ≡ answerOf c Reading
+read : {answers : Answers} → MadeSinglyBy answers → (c : Clock)
+    → answers c (Call Reading) ≡ answerOf c Reading
 unfolding afterBy singlyFrom
 read d c = d c (Call Reading ∷ []) .each [] [] (Call Reading) refl .answered
 
@@ -110,7 +111,8 @@ also-shut-out = (
   record {
     fresh = λ d.
         not-most refl
-        (d .fresh kind256 refl readTwice .third (Call (set 5 0) ∷ []) (Call (asks (pos 0)) ∷ []) [] refl refl);
+        (d .fresh kind256 refl readTwice .third (Call (set 5 0) ∷ []) (Call (asks (pos 0)) ∷ []) []
+        refl refl);
     set = λ d. not-below refl (d .set (offsetLeft kind256) 5 (askedMicros 0) [] refl .near);
     held = λ d.
         not-same refl (ap natAbs (d .set (faster kind256) 5 (askedMicros 0) (Call Tick ∷ []) refl .held));
@@ -143,7 +145,8 @@ also-shut-out = (
   record {
     fresh = λ d.
         not-most refl
-        (d .fresh kind1024 refl readTwice .third (Call (set 5 0) ∷ []) (Call (asks (pos 0)) ∷ []) [] refl refl);
+        (d .fresh kind1024 refl readTwice .third (Call (set 5 0) ∷ []) (Call (asks (pos 0)) ∷ []) []
+        refl refl);
     set = λ d. not-below refl (d .set (offsetLeft kind1024) 5 (askedMicros 0) [] refl .near);
     held = λ d.
         not-same refl (ap natAbs (d .set (faster kind1024) 5 (askedMicros 0) (Call Tick ∷ []) refl .held));

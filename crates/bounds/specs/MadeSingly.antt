@@ -21,8 +21,8 @@ use Rattle.bounds.specs.Demand.{bookOn}
 -- the last second.
 pub data EndsAt (c : Clock) (ceiling : ℕ) (stop : Bool) (a : Stepped) : Type 0 where
   atCeiling : a .count ≡ ceiling → a .«tick_refusal» ≡ 0 → EndsAt c ceiling stop a
-  atRollover : stop ≡ true → (last : ℕ) → a .count ≡ suc last → rollsOver (after c (singleTicks last)) ≡ true → a .«tick_refusal» ≡ 0
-      → EndsAt c ceiling stop a
+  atRollover : stop ≡ true → (last : ℕ) → a .count ≡ suc last
+      → rollsOver (after c (singleTicks last)) ≡ true → a .«tick_refusal» ≡ 0 → EndsAt c ceiling stop a
   atRefusal : a .count < ceiling → answerOf (a .clock) Tick .refusal ≡ refusedLast
       → a .«tick_refusal» ≡ refusedLast → EndsAt c ceiling stop a
 
