@@ -133,7 +133,9 @@ also-shut-out = (
     ticksPast = λ d. not-same refl (d (at kind256 0) (Call Tick ∷ Call (set 5 0) ∷ []));
     ticksRefused = λ d. not-same refl (d (atLast kind256) (Call Tick ∷ []));
     interval = λ d. not-same refl (ap (λ (u : Update). u .interval) (d kind256 (asked (Call Tick ∷ []))));
-    soon = λ d. true≢false (sym (d kind256 (Call (Request offset) ∷ []) offset));
+    soon = λ d. true≢false (sym (d kind256 (Call (Request offset) ∷ []) offset .held));
+    soonAnswered = λ d.
+        true≢false (sym (d kind256 (Call (Request offset) ∷ []) offset .answered refl refl));
     apart = λ d.
         not-most refl
         (d (at kind256 0) twoOffsets [] [] [] offset offset refl refl refl refl);
@@ -167,7 +169,9 @@ also-shut-out = (
     ticksPast = λ d. not-same refl (d (at kind1024 0) (Call Tick ∷ Call (set 5 0) ∷ []));
     ticksRefused = λ d. not-same refl (d (atLast kind1024) (Call Tick ∷ []));
     interval = λ d. not-same refl (ap (λ (u : Update). u .interval) (d kind1024 (asked (Call Tick ∷ []))));
-    soon = λ d. true≢false (sym (d kind1024 (Call (Request offset) ∷ []) offset));
+    soon = λ d. true≢false (sym (d kind1024 (Call (Request offset) ∷ []) offset .held));
+    soonAnswered = λ d.
+        true≢false (sym (d kind1024 (Call (Request offset) ∷ []) offset .answered refl refl));
     apart = λ d.
         not-most refl
         (d (at kind1024 0) twoOffsets [] [] [] offset offset refl refl refl refl);

@@ -48,6 +48,7 @@ as-named = (
     refusedTick = record { wrongAnswer = refl; rightAnswer = refl };
     refusedClock = refl;
     forgets = record { wrongAnswer = refl; rightAnswer = refl };
+    soon = record { wrongAnswer = refl; rightAnswer = refl };
     aheadWhole = record { wrongAnswer = refl; rightAnswer = refl };
     aheadWholeOnly = refl;
     dawdles = refl;
@@ -86,6 +87,7 @@ as-named = (
     refusedTick = record { wrongAnswer = refl; rightAnswer = refl };
     refusedClock = refl;
     forgets = record { wrongAnswer = refl; rightAnswer = refl };
+    soon = record { wrongAnswer = refl; rightAnswer = refl };
     aheadWhole = record { wrongAnswer = refl; rightAnswer = refl };
     aheadWholeOnly = refl;
     dawdles = refl;

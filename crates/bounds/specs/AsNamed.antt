@@ -106,6 +106,8 @@ pub record AsNamed (kind : ℕ) : Type 0 where
       ≡ stepOf (freshClock kind) (Call Tick) .clock
   pub forgets : Differ (λ a. a .clock .updated) other.forgetsAtRollover
       (from kind (field.micros ≔ 999999 ∷ field.updated ≔ 1 ∷ [])) (Call Tick) 0 1
+  pub soon : Differ (λ a. a .refusal) other.acceptsSoon (from kind (field.updated ≔ 1 ∷ []))
+      (Call (asks (pos 1))) 0 17
   pub aheadWhole : Differ telling other.aheadWhileWhole (freshClock kind) (Call Reading) 1 0
   pub aheadWholeOnly :
       Same (λ a. a) other.aheadWhileWhole (clockAfter kind (Call Tick ∷ [])) (Call Reading)

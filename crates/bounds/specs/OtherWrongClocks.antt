@@ -8,6 +8,7 @@ use Rattle.state.specs.Units.{micros, phaseParts, microsPerSecond}
 use Rattle.state.specs.Device.{kind256, kind1024, deviceOf}
 use Rattle.state.specs.State.{Moment, Update, timeOf, correctionOf, tuningOf, updateOf, errorsOf, whole}
 use Rattle.state.specs.State.{noUpdate, lastMicro, statusBad}
+use Rattle.state.specs.Refusal.{refusedSoon}
 use Rattle.state.specs.declared.state.Clock.{Clock}
 use Rattle.state.specs.declared.units.PhaseUnits.{PhaseUnits}
 use Rattle.state.specs.declared.units.PhaseParts.{PhaseParts}
@@ -143,6 +144,18 @@ blamesTick = refusedAnswers (λ c ceiling a. counting (a .count) (a .refusal) a)
 abbrev pub ticksRefused : Answers
 ticksRefused = refusedAnswers (λ c ceiling a. leaving (answerOf c Tick .clock) a)
 
+-- an offset that comes too soon is said to be accepted
+abbrev pub acceptsSoon : Answers
+acceptsSoon c e =
+    let a = stepOf c e in
+    record {
+      refusal = cond (eqb (a .refusal) refusedSoon) 0 (a .refusal);
+      count = a .count;
+      «tick_refusal» = a .«tick_refusal»;
+      clock = a .clock;
+      reading = a .reading;
+    }
+
 -- a catch-up goes on for a tick past its ceiling
 abbrev pub overruns : Answers
 overruns c (Call e) = stepOf c (Call e)
@@ -200,6 +213,7 @@ pub record AlsoShutOut (kind : ℕ) : Type 0 where
   pub ticksRefused : TicksSinceSettingBy (countsOnKind kind withRefused) → ⊥
   pub interval : IntervalBy (onKind kind stepOf countsNoRollover) → ⊥
   pub soon : TooSoonBy (onKind kind stepOf holdsNoUpdate) → ⊥
+  pub soonAnswered : TooSoonBy (onKind kind stepOf acceptsSoon) → ⊥
   pub apart : OffsetsApartBy (onKind kind stepOf holdsNoUpdate) → ⊥
   pub apartLater : OffsetsApartBy (onKind kind stepOf forgetsAtRollover) → ⊥
 
