@@ -1,27 +1,35 @@
 -- Two accepted offsets of a list: the second finds in the clock no more rollovers than lie between them, and
 -- no fewer than 64. And the clock's count, which stops at 1,024, judges as all rollovers would.
-use mathlib.Core.Path.{_≡_, refl, sym, ap}
-use mathlib.Core.Bool.{Bool, true, false, _&&_, not, cond, true≢false}
+use mathlib.Core.Path.{_≡_, refl, sym, ap, _∙_}
+use mathlib.Core.Bool.{Bool, true, false, _&&_, _||_, not, cond, true≢false}
 use mathlib.Core.List.{List, [], _∷_, _++_}
 use Prim.Native.Nat.{ℕ, _+_, _≤_, min}
 use native.Mathlib.Omega.{arith}
 use lib.Dec.{ltb, eqb}
-use borrow.Author.Tests.{not-true, lt-ltb, le-ltb, ltb-true, ltb-false}
+use borrow.Author.Tests.{not-true, lt-ltb, le-ltb, ltb-true, ltb-false, leb-true}
 use Rattle.integers.proofs.Ranges.{and-true}
-use Rattle.state.specs.State.{Update, updateOf, longestInterval}
+use Rattle.state.specs.Device.{kindRange}
+use Rattle.state.specs.Refusal.{refuse}
+use Rattle.state.specs.State.{Update, updateOf, longestInterval, freshClock, inRange}
+use Rattle.state.proofs.Ok.{ok-back}
 use Rattle.state.specs.declared.state.Clock.{Clock}
-use Rattle.request.specs.Request.{selectsOffset, requested, requestOf}
+use Rattle.request.specs.Request.{selectsOffset, requested, requestOf, requestRefusal, offsetTooSoon}
+use Rattle.request.specs.Request.{modeAbove, offsetOutside, frequencyOutside, errorAbove, statusAbove}
+use Rattle.request.specs.Request.{constantAbove}
 use Rattle.request.specs.declared.request.Request.{Request}
 use Rattle.request.proofs.RequestCases as req
 use Rattle.event.specs.declared.event.Call.{Call}
 use Rattle.event.specs.declared.event.Call.the-variants as call
+use Rattle.event.specs.declared.event.Event.{Event}
 use Rattle.event.specs.declared.event.Event.the-variants as event
 use Rattle.bounds.specs.Calls.{next, after, clockAfter, clockFrom, accepted, takesOffset, sets, rolls, countAmongBy, noneAmongBy, rolloversAmong, neverSet}
-use Rattle.bounds.specs.Singly.{singlyFrom}
+use Rattle.bounds.specs.Singly.{singlyFrom, singly}
+use Rattle.bounds.specs.Book.{emptyBook}
+use Rattle.bounds.specs.Demand.{bookOf}
 use Rattle.bounds.specs.Interval.{Since, justTaken, callSince, sinceFrom, sinceOf, heldUpdate}
-use Rattle.bounds.specs.Apart.{OffsetsApartInEveryList, TooSoonByTheCalls}
-use Rattle.bounds.proofs.Exact.{not-zero}
-use Rattle.bounds.proofs.Singly.{clock-last, clock-then}
+use Rattle.bounds.specs.Apart.{OffsetsApartInEveryList, TooSoonByTheCalls, tooSoon, refusedAnyway}
+use Rattle.bounds.proofs.Exact.{not-zero, Inv, run-inv, fresh-inv}
+use Rattle.bounds.proofs.Singly.{clock-last, clock-then, after-singly}
 use Rattle.bounds.proofs.Interval.{run-held, interval}
 
 -- an offset was accepted, and at most `most` rollovers have come since
@@ -89,7 +97,38 @@ soon-by true u true k h = rw h (below-limit k (ltb k 64) refl)
 soon-by true u false k h = rw h refl
 soon-by false u offset k h = refl
 
+-- the refusals of a request from 1 to 17, in order, where those before 17 do not apply
+only-soon : (inside a b c d e f soon : Bool) → inside ≡ true → a || b || c || d || e || f ≡ false
+    → eqb (refuse (not inside) 1 (refuse a 4 (refuse b 5 (refuse c 6 (refuse d 7 (refuse e 8 (refuse f 9
+    (refuse soon 17 0)))))))) 17 ≡ soon
+only-soon false a b c d e f soon i h = absurd (true≢false (sym i))
+only-soon true true b c d e f soon i h = absurd (true≢false h)
+only-soon true false true c d e f soon i h = absurd (true≢false h)
+only-soon true false false true d e f soon i h = absurd (true≢false h)
+only-soon true false false false true e f soon i h = absurd (true≢false h)
+only-soon true false false false false true f soon i h = absurd (true≢false h)
+only-soon true false false false false false true soon i h = absurd (true≢false h)
+only-soon true false false false false false false true i h = refl
+only-soon true false false false false false false false i h = refl
+
+answers-soon : (c : Clock) (r : Request) → inRange c ≡ true → refusedAnyway r ≡ false
+    → eqb (requestOf c r .refusal) 17 ≡ offsetTooSoon c r
+unfolding requestOf requestRefusal
+answers-soon c r i h =
+    only-soon (inRange c) (modeAbove r) (offsetOutside r) (frequencyOutside r) (errorAbove r) (statusAbove r)
+    (constantAbove r) (offsetTooSoon c r) i h
+
+in-range : (kind : ℕ) (events : List Event) → kindRange kind ≡ true → inRange (clockAfter kind events) ≡ true
+in-range kind events h =
+    let i : Inv (clockAfter kind events) (bookOf kind events) =
+    rw (after-singly (freshClock kind) events)
+    (run-inv (freshClock kind) emptyBook (singly kind events) (fresh-inv kind (leb-true _ _ h))) in
+    ok-back (clockAfter kind events) (i .range)
+
 pub too-soon : TooSoonByTheCalls
 too-soon kind events r =
     let n = sinceOf kind events in
-    soon-by (selectsOffset r) (updateOf (clockAfter kind events)) (n .offset) (n .rollovers) (interval kind events)
+    let c = clockAfter kind events in
+    let h : offsetTooSoon c r ≡ tooSoon n r =
+    soon-by (selectsOffset r) (updateOf c) (n .offset) (n .rollovers) (interval kind events) in
+    record { held = h; answered = λ k o. answers-soon c r (in-range kind events k) o ∙ h }

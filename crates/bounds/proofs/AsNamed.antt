@@ -43,6 +43,15 @@ as-named = (
     ceiling = record { wrongAnswer = refl; rightAnswer = refl };
     ceilingClock = refl;
     overruns = record { wrongAnswer = refl; rightAnswer = refl };
+    hides = record { wrongAnswer = refl; rightAnswer = refl };
+    refusedCount = record { wrongAnswer = refl; rightAnswer = refl };
+    refusedTick = record { wrongAnswer = refl; rightAnswer = refl };
+    refusedClock = refl;
+    forgets = record { wrongAnswer = refl; rightAnswer = refl };
+    soon = record { wrongAnswer = refl; rightAnswer = refl };
+    aheadWhole = record { wrongAnswer = refl; rightAnswer = refl };
+    aheadWholeOnly = refl;
+    dawdles = refl;
     lingers = refl;
   },
   record {
@@ -73,6 +82,15 @@ as-named = (
     ceiling = record { wrongAnswer = refl; rightAnswer = refl };
     ceilingClock = refl;
     overruns = record { wrongAnswer = refl; rightAnswer = refl };
+    hides = record { wrongAnswer = refl; rightAnswer = refl };
+    refusedCount = record { wrongAnswer = refl; rightAnswer = refl };
+    refusedTick = record { wrongAnswer = refl; rightAnswer = refl };
+    refusedClock = refl;
+    forgets = record { wrongAnswer = refl; rightAnswer = refl };
+    soon = record { wrongAnswer = refl; rightAnswer = refl };
+    aheadWhole = record { wrongAnswer = refl; rightAnswer = refl };
+    aheadWholeOnly = refl;
+    dawdles = refl;
     lingers = refl;
   },
   record { first = refl; second = refl },

@@ -14,7 +14,6 @@ use Rattle.request.specs.Request.{selectsOffset}
 use Rattle.request.specs.declared.request.Request.{Request}
 use Rattle.bounds.specs.Calls.{next, accepted, ticks, sets, ticksAmong, neverSet}
 use Rattle.bounds.specs.Calls.{countAmongBy, noneAmongBy}
-use Rattle.bounds.specs.Singly.{singlyFrom}
 use Rattle.bounds.specs.Book.{Book, emptyBook, callBook, bookFrom}
 use Rattle.bounds.specs.BookTicks.{ticksSinceSetting, TicksOfTheBook}
 
@@ -77,5 +76,4 @@ from-empty c es true h = omega (arith, simp h at (run-n c emptyBook es), all-tic
 from-empty c es false h = simp h at (run-n c emptyBook es)
 
 pub ticks-of-the-book : TicksOfTheBook
-ticks-of-the-book start events =
-    from-empty start (singlyFrom start events) (neverSet start (singlyFrom start events)) refl
+ticks-of-the-book start events = from-empty start _ _ refl

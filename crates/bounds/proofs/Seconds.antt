@@ -25,7 +25,7 @@ use Rattle.event.specs.declared.event.Call.{Call}
 use Rattle.event.specs.declared.event.Call.the-variants as call
 use Rattle.bounds.specs.Calls.{next, afterBy, after, ticks, countAmongBy, noneAmong, noneAmongBy, ticksAmong}
 use Rattle.bounds.specs.Calls as calls
-use Rattle.bounds.specs.Seconds.{setsOrRolls, OneMoreOrFewer, TicksOfASecond}
+use Rattle.bounds.specs.Seconds.{setsOrRolls, TicksOfASecond}
 use Rattle.bounds.proofs.Runs.{after-kind, next-kind}
 use Rattle.bounds.proofs.Moved.{device, Count, count-step, count-start, ticks-least, ticks-most}
 
@@ -91,5 +91,4 @@ ticks-of-a-second c between t u v =
     let low = ticks-least last (s .range) _ (s .count) (ends last (tickCase last) v) in
     let high = ticks-most last (s .range) _ (s .count) in
     let same : last .kind ≡ c .kind = after-kind d between ∙ next-kind c call.Tick in
-    let one : OneMoreOrFewer (last .kind) (ticksAmong d between + 1) = record { least = omega (arith, low); most = omega (arith, high) } in
-    rw same at one
+    record { least = omega (arith, rw same at low); most = omega (arith, rw same at high) }

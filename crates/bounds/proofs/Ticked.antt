@@ -79,7 +79,7 @@ module _ (stop : Bool) where
             accepted = λ j h. absurd (omega (arith, h));
             most = omega arith;
             onward = λ j h. absurd (omega (arith, h));
-            ends = atRefusal (omega arith) e e;
+            ends = atRefusal (omega arith) e (omega (arith, e));
           })
 
       stopped : eqb (tickOf c .refusal) 0 ≡ true → (stop && rollsOver c) ≡ true → Run (suc n) c

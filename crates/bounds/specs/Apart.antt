@@ -2,11 +2,15 @@
 -- last accepted one is now refused, number 17 [..] A clock without an earlier update is exempt."
 use Prim.Native.Nat.{ℕ, _≤_}
 use mathlib.Core.Path.{_≡_}
-use mathlib.Core.Bool.{Bool, true, _&&_}
+use mathlib.Core.Bool.{Bool, true, false, _&&_, _||_}
 use mathlib.Core.List.{List, [], _∷_, _++_}
 use lib.Dec.{ltb, eqb}
+use Rattle.state.specs.Device.{kindRange}
+use Rattle.state.specs.Refusal.{refusedSoon}
 use Rattle.state.specs.declared.state.Clock.{Clock}
 use Rattle.request.specs.Request.{selectsOffset, shortestInterval, offsetTooSoon}
+use Rattle.request.specs.Request.{modeAbove, offsetOutside, frequencyOutside, errorAbove, statusAbove}
+use Rattle.request.specs.Request.{constantAbove}
 use Rattle.request.specs.declared.request.Request as asked
 use Rattle.event.specs.Event.{stepOf}
 use Rattle.event.specs.declared.event.Call.the-variants.{Request}
@@ -20,12 +24,23 @@ use Rattle.bounds.specs.Interval.{Since, sinceOf}
 abbrev pub tooSoon : Since → asked.Request → Bool
 tooSoon n r = selectsOffset r && n .offset && ltb (n .rollovers) shortestInterval
 
--- Of what answers: after any list of events on a fresh clock of a kind the clock, which holds no more than
--- 1,024 of these rollovers, judges by them all.
+-- one of 4 to 9 refuses a request, whatever the clock
+abbrev pub refusedAnyway : asked.Request → Bool
+refusedAnyway r =
+    modeAbove r || offsetOutside r || frequencyOutside r || errorAbove r || statusAbove r || constantAbove r
+
+-- A request after a list of events on a fresh clock of a kind.
+pub record SoonAt (answers : Answers) (kind : ℕ) (events : List Event) (r : asked.Request) : Type 0 where
+  -- the clock, which holds no more than 1,024 of these rollovers, judges by them all
+  pub held : offsetTooSoon (clockBy answers kind events) r ≡ tooSoon (sinceOf kind events) r
+  -- and so the request is answered, which is "checked after 9"
+  pub answered : kindRange kind ≡ true → refusedAnyway r ≡ false
+      → eqb (answers (clockBy answers kind events) (Call (Request r)) .refusal) refusedSoon
+      ≡ tooSoon (sinceOf kind events) r
+
+-- Of what answers, after any list.
 abbrev pub TooSoonBy : Answers → Type 0
-TooSoonBy answers =
-    (kind : ℕ) (events : List Event) (r : asked.Request)
-    → offsetTooSoon (clockBy answers kind events) r ≡ tooSoon (sinceOf kind events) r
+TooSoonBy answers = (kind : ℕ) (events : List Event) (r : asked.Request) → SoonAt answers kind events r
 
 abbrev pub TooSoonByTheCalls : Type 0
 TooSoonByTheCalls = TooSoonBy stepOf

@@ -26,7 +26,7 @@ pub record Differ {A : Type 0} (part : Stepped → A) (answers : Answers) (c : C
   pub wrongAnswer : part (answers c e) ≡ wrongly
   pub rightAnswer : part (stepOf c e) ≡ rightly
 
--- nothing but the clock differs, and of it one part alone is looked at
+-- a part of both answers is the same; of the rest it says nothing
 abbrev pub Same : {A : Type 0} → (Stepped → A) → Answers → Clock → Event → Type 0
 Same part answers c e = part (answers c e) ≡ part (stepOf c e)
 
@@ -38,17 +38,23 @@ telling a = tells (a .reading)
 abbrev pub from : ℕ → List Start → Clock
 from kind ss = given (field.kind ≔ kind ∷ ss)
 
--- just before a rollover, with the greatest offset asked for; and one rollover later, when its first share
--- has been taken off
+-- just before a rollover, with the greatest offset asked for
 abbrev pub atFirstShare : ℕ → Clock
 atFirstShare kind = clockAfter kind (wrong.asked [])
 
+-- a remainder in force of one part of a phase unit
 abbrev pub withRemainder : ℕ → Clock
 withRemainder kind = from kind (field.remainder ≔ℤ pos 1 ∷ [])
 
+-- just before a rollover
 abbrev pub atTheEnd : ℕ → Clock
 atTheEnd kind = from kind (field.micros ≔ 999999 ∷ [])
 
+-- .. from the last second
+abbrev pub atTheLast : ℕ → Clock
+atTheLast kind = from kind (field.seconds ≔ 4294967295 ∷ field.micros ≔ 999999 ∷ [])
+
+-- .. with an offset left of which the first share has been taken off
 abbrev pub atSecondShare : ℕ → Clock
 atSecondShare kind = from kind (field.micros ≔ 999999 ∷ field.left ≔ℤ pos 2095087632 ∷ [])
 
@@ -90,6 +96,22 @@ pub record AsNamed (kind : ℕ) : Type 0 where
   pub ceiling : Differ (λ a. a .count) other.tellsCeiling (atTheEnd kind) (CatchUp 2 true) 2 1
   pub ceilingClock : Same (λ a. a .clock) other.tellsCeiling (atTheEnd kind) (CatchUp 2 true)
   pub overruns : Differ (λ a. a .count) other.overruns (freshClock kind) (CatchUp 1 false) 2 1
+  pub hides : Differ (λ a. a .«tick_refusal») other.hidesRefusal (atTheLast kind) (CatchUp 1 false) 0 3
+  pub refusedCount :
+      Differ (λ a. a .count) other.countsRefused (freshClock kind) (CatchUp 65537 false) 65537 0
+  pub refusedTick :
+      Differ (λ a. a .«tick_refusal») other.blamesTick (freshClock kind) (CatchUp 65537 false) 16 0
+  pub refusedClock :
+      other.ticksRefused (freshClock kind) (CatchUp 65537 false) .clock
+      ≡ stepOf (freshClock kind) (Call Tick) .clock
+  pub forgets : Differ (λ a. a .clock .updated) other.forgetsAtRollover
+      (from kind (field.micros ≔ 999999 ∷ field.updated ≔ 1 ∷ [])) (Call Tick) 0 1
+  pub soon : Differ (λ a. a .refusal) other.acceptsSoon (from kind (field.updated ≔ 1 ∷ []))
+      (Call (asks (pos 1))) 0 17
+  pub aheadWhole : Differ telling other.aheadWhileWhole (freshClock kind) (Call Reading) 1 0
+  pub aheadWholeOnly :
+      Same (λ a. a) other.aheadWhileWhole (clockAfter kind (Call Tick ∷ [])) (Call Reading)
+  pub dawdles : other.dawdles (freshClock kind) Tick .clock .micros .0 ≡ 1
   pub lingers : other.lingers (atTheEnd kind) Tick .clock .micros .0 ≡ 999999
 
 -- the other kind is left to the rules

@@ -18,8 +18,19 @@ ticksSinceSetting c [] = 0
 ticksSinceSetting c (e ∷ es) =
     cond (neverSet c (e ∷ es)) (ticksAmong c (e ∷ es)) (ticksSinceSetting (next c e) es)
 
--- On any clock, the ticks of catch-ups made singly.
-abbrev pub TicksOfTheBook : Type 0
-TicksOfTheBook =
+-- what counts ticks, of a list of events on a clock
+abbrev pub Counts : Type 0
+Counts = Clock → List Event → ℕ
+
+-- Of what counts, on any clock, the ticks of catch-ups made singly.
+abbrev pub TicksSinceSettingBy : Counts → Type 0
+TicksSinceSettingBy counts =
     (start : Clock) (events : List Event)
-    → bookOn start events .n ≡ ticksSinceSetting start (singlyFrom start events)
+    → counts start events ≡ ticksSinceSetting start (singlyFrom start events)
+
+-- the book's n
+abbrev pub bookTicks : Counts
+bookTicks start events = bookOn start events .n
+
+abbrev pub TicksOfTheBook : Type 0
+TicksOfTheBook = TicksSinceSettingBy bookTicks

@@ -1,5 +1,6 @@
--- The numbers of the statements over lists, each at its edge: there it holds, and one beyond it fails, on
--- either kind of device.
+-- The numbers in the predicates that the statements over lists use, each at its edge: there the predicate
+-- holds, and one beyond it fails, on either kind of device. That a statement uses its predicate is not said
+-- here, but by the clocks that it shuts out.
 use Prim.Native.Nat.{ℕ, _+_, _-_, _*_, _^_}
 use mathlib.Core.Path.{_≡_}
 use mathlib.Core.Bool.{true, false}
@@ -73,7 +74,7 @@ pub record SecondEdge (kind least most : ℕ) : Type 0 where
   pub greatest : Edge (OneMoreOrFewer kind most) (OneMoreOrFewer kind (most + 1))
 
 -- A catch-up that stops at a rollover: one of two ticks, the second of which rolls over, has made two of two,
--- and is none of ceiling 1. The first starts that much before the end of the second (us).
+-- and is none of ceiling 1. The first starts at these microseconds of its second.
 abbrev pub CeilingEdge : ℕ → ℕ → Type 0
 CeilingEdge kind start =
     let c = given (field.kind ≔ kind ∷ field.micros ≔ start ∷ []) in

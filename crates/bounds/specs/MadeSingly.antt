@@ -4,6 +4,7 @@ use mathlib.Core.Path.{_≡_}
 use mathlib.Core.Bool.{Bool, true, false, _&&_}
 use mathlib.Core.List.{List, [], _∷_, _++_}
 use Rattle.clock.specs.Tick.{rollsOver}
+use Rattle.state.specs.Refusal.{refusedLast}
 use Rattle.state.specs.declared.state.Clock.{Clock}
 use Rattle.event.specs.Event.{answerOf, stepOf}
 use Rattle.event.specs.declared.event.Call.the-variants.{Tick}
@@ -16,12 +17,14 @@ use Rattle.bounds.specs.Book.{bookFrom}
 use Rattle.bounds.specs.Demand.{bookOn}
 
 -- Where the single ticks of c end that are answered with a: "until ceiling, rollover or first refusal". The
--- ceiling comes first: at it no refusal is looked for. The only refusal that a tick can meet here is 3.
+-- ceiling comes first: at it no refusal is looked for. The only refusal that a tick can meet here is that of
+-- the last second.
 pub data EndsAt (c : Clock) (ceiling : ℕ) (stop : Bool) (a : Stepped) : Type 0 where
   atCeiling : a .count ≡ ceiling → a .«tick_refusal» ≡ 0 → EndsAt c ceiling stop a
-  atRollover : stop ≡ true → (last : ℕ) → a .count ≡ suc last → rollsOver (after c (singleTicks last)) ≡ true → a .«tick_refusal» ≡ 0
-      → EndsAt c ceiling stop a
-  atRefusal : a .count < ceiling → answerOf (a .clock) Tick .refusal ≡ 3 → a .«tick_refusal» ≡ 3 → EndsAt c ceiling stop a
+  atRollover : stop ≡ true → (last : ℕ) → a .count ≡ suc last
+      → rollsOver (after c (singleTicks last)) ≡ true → a .«tick_refusal» ≡ 0 → EndsAt c ceiling stop a
+  atRefusal : a .count < ceiling → answerOf (a .clock) Tick .refusal ≡ refusedLast
+      → a .«tick_refusal» ≡ refusedLast → EndsAt c ceiling stop a
 
 -- an accepted catch-up that answers a, by the single ticks in its place, the first of which gets c
 pub record Ticked (c : Clock) (ceiling : ℕ) (stop : Bool) (a : Stepped) : Type 0 where
@@ -68,7 +71,7 @@ pub record MadeSingly (answers : Answers) (start : Clock) (events : List Event) 
   pub each : (before later : List Event) (e : Event) → events ≡ before ++ (e ∷ later)
       → InPlace answers start before later e
 
--- on any clock: a fresh one, or one that a setting is accepted on
+-- on every clock, also one that is out of range
 abbrev pub MadeSinglyBy : Answers → Type 0
 MadeSinglyBy answers = (start : Clock) (events : List Event) → MadeSingly answers start events
 

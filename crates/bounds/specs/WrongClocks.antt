@@ -1,7 +1,7 @@
 -- Clocks that document 01 shuts out by name: "a clock that refuses everything, and a reading that is always
 -- zero [..]; a tick that does nothing [..]; a rollover that pays the first share and later only pretends".
--- And others, each of which lacks one part of demand 3 alone. For each, a list of events at which demand 3
--- would fail, on a clock of either kind.
+-- And others, each of which lacks a part of demand 3. For each, a list of events at which demand 3 would
+-- fail, on a clock of either kind.
 use Prim.Native.Nat.{ℕ, _+_, _%_}
 use mathlib.Core.Bool.{Bool, false, not, _&&_, cond}
 use mathlib.Core.List.{List, [], _∷_}
@@ -36,8 +36,8 @@ leaving c a =
       reading = a .reading;
     }
 
--- The rules, but that a call of a sort leaves another clock: f of the clock that it got and of the one that
--- it should leave.
+-- The rules, but that a single call of a sort leaves another clock: f of the clock that it got and of the one
+-- that it should leave. Catch-ups follow the rules.
 abbrev pub callLeaves : (Clock → Single → Bool) → (Clock → Clock → Clock) → Answers
 callLeaves sort f c (Call e) =
     let a = stepOf c (Call e) in
@@ -153,9 +153,9 @@ paidSecond kind = measureOf kind .parts
 -- None of them meets demand 3. A clock that refuses everything, one that says so, and a reading that is
 -- always zero fail the first bound after a tick, and "a rollover that pays the first share and later only
 -- pretends ([..] 3's first bound, whose exact time counts every share)". A clock whose offset stays while it
--- is paid fails the second, at a tick of its own and at one within a catch-up; and a reading that is ahead,
--- and then no longer, the third. "A tick that does nothing ([..] 3's forward bound)" fails that bound too, as
--- does a catch-up that only counts.
+-- is paid fails the second, at a tick of the list and at one of the single ticks that the bound puts in the
+-- place of a catch-up; and a reading that is ahead, and then no longer, the third. "A tick that does nothing
+-- ([..] 3's forward bound)" fails that bound too, as does a catch-up that only counts.
 pub record ShutOut (kind : ℕ) : Type 0 where
   pub refusing : Demand3 refusesEverything kind (Call Tick ∷ []) → ⊥
   pub saying : Demand3 saysRefused kind (Call Tick ∷ []) → ⊥
