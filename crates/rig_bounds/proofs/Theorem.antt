@@ -25,10 +25,10 @@ use Rattle.rig.specs.Rig.{tableRefusal, clockAt, answered}
 use Rattle.rig.specs.OneClock.{theRig}
 use Rattle.rig.specs.declared.rig.Answer.{Answer}
 use Rattle.rig.proofs.OneClock.{answer-passed, next-passed, table-kept, others-always-stay}
-use Rattle.rig_bounds.specs.Demand.{RigCall, rigAnswer, tableAfter, clockBefore, clockBehind, reaches, ownEvents}
-use Rattle.rig_bounds.specs.Demand.{OnlyTheseChange, AsAlone, Each, EachAsAlone, ReadingOf, ReadingAccepted}
-use Rattle.rig_bounds.specs.Demand.{ReadingsNear, MovedAtRollover, ReadingsForward, Demand3OfEveryRig}
-use Rattle.rig_bounds.specs.Demand.{PlacedEvent, callsInTurn, OneTable}
+use Rattle.rig_bounds.specs.Demand.{RigCall, rigAnswer, tableAfter, clockBefore, clockBehind}
+use Rattle.rig_bounds.specs.Demand.{reaches, ownEvents, OnlyTheseChange, AsAlone, Each, EachAsAlone}
+use Rattle.rig_bounds.specs.Demand.{ReadingOf, ReadingAccepted, ReadingsNear, MovedAtRollover}
+use Rattle.rig_bounds.specs.Demand.{ReadingsForward, Demand3OfEveryRig, PlacedEvent, callsInTurn, OneTable}
 
 -- ---- one call
 

@@ -17,7 +17,8 @@ use Rattle.event.specs.declared.event.Event.the-variants.{Call}
 use Rattle.bounds.specs.Calls.{clockFrom, clockAfter, accepted, rolls, ticksAmong, neitherSetNorInserted}
 use Rattle.bounds.specs.Singly.{singlyFrom}
 use Rattle.bounds.specs.Measure.{measureOf}
-use Rattle.bounds.specs.Demand.{tells, bookOf, takenOff, NearExact, MovedAsTaken, GoneForward, FirstBound, Demand3}
+use Rattle.bounds.specs.Demand.{tells, bookOf, takenOff, NearExact, MovedAsTaken, GoneForward}
+use Rattle.bounds.specs.Demand.{FirstBound, Demand3}
 use Rattle.rig.specs.Rig.{tableRefusal, clockAt, answered}
 use Rattle.rig.specs.OneClock.{Rig}
 use Rattle.rig.specs.declared.rig.Answer.{Answer}
@@ -31,8 +32,8 @@ pub record RigCall : Type 0 where
   pub place : ℕ
   pub event : Event
 
--- What it is answered, and the table that it leaves, by whatever answers; by the rules that is `theRig`, which
--- `heukelvos_event_at` promises to be.
+-- What it is answered, and the table that it leaves, by whatever answers; by the rules that is `theRig`,
+-- which `heukelvos_event_at` promises to be.
 abbrev pub rigAnswer : Rig → RigCall → Answer
 rigAnswer rig k = rig .answer (k .table) (k .place) (k .event)
 
@@ -107,8 +108,8 @@ ReadingsNear rig kind calls =
     (before later : List RigCall) (k : RigCall) → calls ≡ before ++ (k ∷ later) → ReadingOf k
     → NearExact (measureOf kind) (tells (rigAnswer rig k .reading)) (bookOf kind (ownEvents before))
 
--- The second, of the clock that the rig hands to a tick: where the tick rolls over by the rules, what has been
--- taken off is by the offset left in that clock. Of the ticks within a catch-up the rig shows no clock; of
+-- The second, of the clock that the rig hands to a tick: where the tick rolls over by the rules, what has
+-- been taken off is by the offset left in that clock. Of the ticks within a catch-up the rig shows no clock; of
 -- those it is said of the clock by itself alone.
 abbrev pub MovedAtRollover : ℕ → List RigCall → RigCall → Type 0
 MovedAtRollover kind before k =
@@ -125,10 +126,11 @@ ReadingsForward rig kind calls =
     → let c = clockAfter kind (ownEvents (before ++ (j ∷ []))) in
     let es = singlyFrom c (ownEvents between) in
     neitherSetNorInserted c es ≡ true
-    → GoneForward (measureOf kind) (ticksAmong c es) (tells (rigAnswer rig j .reading)) (tells (rigAnswer rig k .reading))
+    → GoneForward (measureOf kind) (ticksAmong c es) (tells (rigAnswer rig j .reading))
+    (tells (rigAnswer rig k .reading))
 
--- Demand 3 of a clock that is lent fresh, of a kind: of its own events on a clock by itself, by the rules; each
--- call on the rig is one on that clock; and so the bounds hold of what the rig hands out and answers.
+-- Demand 3 of a clock that is lent fresh, of a kind: of its own events on a clock by itself, by the rules;
+-- each call on the rig is one on that clock; and so the bounds hold of what the rig hands out and answers.
 pub record Demand3OfRigClock (rig : Rig) (kind : ℕ) (calls : List RigCall) : Type 0 where
   pub demand : Demand3 stepOf kind (ownEvents calls)
   pub alone : EachAsAlone rig (freshClock kind) calls

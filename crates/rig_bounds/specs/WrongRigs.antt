@@ -55,8 +55,8 @@ askedAtRollover =
     (placed 0 (set 5 996094) ∷ placed 0 (asks (pos 1000)) ∷ placed 0 Tick ∷ [])
 
 -- All are lists that demand 3 is about, and no rig meets it: one tells 5 s where it is 0 s; one refuses a
--- reading; one does not go forward, nor does a call of it leave, or the next one get, what the clock by itself
--- would be, and at a rollover it has lost the offset that is to be taken off.
+-- reading; one does not go forward, nor does a call of it leave, or the next one get, what the clock by
+-- itself would be, and at a rollover it has lost the offset that is to be taken off.
 pub record ShutOut : Type 0 where
   pub answering : OnlyTheseChange answersFirst (freshClock kind256) readBehind
   pub near : ReadingsNear answersFirst kind256 readBehind → ⊥
