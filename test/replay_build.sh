@@ -25,7 +25,9 @@ orders=$(cat "$KIT/orders")
 case $orders in
 wait | talk)
     (trap ': >"$KIT/heard"; exit 1' TERM; : >"$KIT/ready"; sleep 30 & wait) &
-    [ "$orders" = wait ] || while sleep 0.1 2>/dev/null || sleep 1; do
+    # It ends with the test's folder, should a broken script leave it running.
+    [ "$orders" = wait ] || while [ -d "$KIT" ]; do
+        sleep 0.1 2>/dev/null || sleep 1
         [ ! -f "$KIT/ready" ] || echo "rt: base proved (1 s)"
     done
     wait
