@@ -5,7 +5,7 @@ ghost use Prim.Native.Nat.{_%_, _<_};
 ghost use Rattle.number.specs.Reading.{told as Number·told};
 ghost use Rattle.number.specs.Inner.{refusedAs};
 ghost use Rattle.history.specs.declared.Event.the-variants.{Call};
-ghost use Rattle.history.specs.Event.{found, refused, told, offsetAsked, frequencyAsked, fieldAt, ticksAt, settingAt, requestAt, eventAt};
+ghost use Rattle.history.specs.Event.{found, refused, told, offsetAsked, frequencyAsked, fieldAt, ticksAt, settingAt, requestAt, otherAt, eventAt, asksSummary};
 use number::Decoded;
 use number::unmap;
 use request::ADJ_ESTERROR;
@@ -24,6 +24,8 @@ use state::REFUSED_FIELD;
 pub enum Event {
     // so many single ticks, up to the first refusal
     Ticks(u64),
+    // that the summary is printed after the last event: the first event alone can be this
+    Summary,
     // a setting, a request whose fields that the mode does not select are 0, or a reading, which is a print
     Call(event::Call),
 }
@@ -163,6 +165,28 @@ fn request_at(bytes: &[u8], at: usize) -> Entry
     called(event::Call::Request(request), next)
 }
 
+fn wide(byte: u8) -> u64
+    ensures { λ r. ⌜ r ≡ byte ⌝ }
+{
+    byte as u64
+}
+
+// The code of the event that asks for the summary.
+const SUMMARY: u64 = 4;
+
+// The summary is asked for at place 0 alone; any other code is unknown.
+fn other_at(code: u64, start: usize, at: usize) -> Entry
+    ensures { λ r. ⌜ told r ≡ otherAt start code at ⌝ }
+{
+    if (code == SUMMARY) & (start == 0) {
+        return Entry::Whole {
+            event: Event::Summary,
+            next: at,
+        };
+    }
+    Entry::Refused(REFUSED_FIELD)
+}
+
 // The event that starts at `at`.
 pub fn read(bytes: &[u8], at: usize) -> Entry
     ensures { λ r. ⌜ told r ≡ eventAt (now (bytes .entry)) at ⌝ }
@@ -176,6 +200,16 @@ pub fn read(bytes: &[u8], at: usize) -> Entry
         1 => setting_at(bytes, next),
         2 => request_at(bytes, next),
         3 => called(event::Call::Reading, next),
-        _ => Entry::Refused(REFUSED_FIELD),
+        _ => other_at(code, at, next),
     }
+}
+
+// Whether the first event asks for the summary. The code 4 has one written form, of one byte.
+pub fn asks_summary(bytes: &[u8]) -> bool
+    ensures { λ r. ⌜ r ≡ asksSummary (now (bytes .entry)) ⌝ }
+{
+    if bytes.len() == 0 {
+        return false;
+    }
+    wide(bytes[0]) == SUMMARY
 }

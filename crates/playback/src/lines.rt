@@ -100,3 +100,20 @@ pub(crate) fn put_print(out: &mut [u8], at: usize, c: Clock) -> usize
     ];
     put(out, at + LABEL, &rest)
 }
+
+// `QQ N M`; nothing where N is 0
+pub(crate) fn put_quarter(
+    out: &mut [u8],
+    at: usize,
+    quarter: u32,
+    count: u16,
+    largest: u32,
+) -> usize {
+    if count == 0 {
+        return at;
+    }
+    let head = [digit(quarter / 10), digit(quarter), b' '];
+    let next = put_number(out, at, &head, count as u32);
+    let end = put_number(out, next, b" ", largest);
+    put(out, end, b"\n")
+}

@@ -9,16 +9,21 @@ ghost use Rattle.playback.specs.Filling.{longestLine, runLimits, Fills};
 ghost use Rattle.playback.specs.Inner.{isReading, RunsEvent, endedAt, noEvent, Steps};
 use crate::lines::put_log;
 use crate::lines::put_print;
+use crate::lines::put_quarter;
 use crate::lines::put_refused;
 use clock::Clock;
 use clock::KIND_256;
 use clock::fresh;
 use clock::run_ticks;
-use event::step;
 use history::Entry;
 use history::Event;
+use history::asks_summary;
 use state::REFUSED_BEYOND;
 use state::REFUSED_ROOM;
+use summary::QUARTERS;
+use summary::Summary;
+use summary::empty;
+use summary::step_in_place;
 
 // The longest history, in bytes.
 pub const LONGEST_HISTORY: usize = 65536;
@@ -44,11 +49,14 @@ pub fn run_limits() -> RunLimits
     }
 }
 
-// Where a run stands: its clock, the place of the next event, and whether it has ended.
+// Where a run stands: its clock; the place of the next event; the next quarter-hour whose line is printed, where
+// the history asks for the summary; whether the run has ended; and the summary of the events so far.
 pub struct Run {
     pub clock: Clock,
     pub place: usize,
+    pub quarter: usize,
     pub ended: bool,
+    pub summary: Summary,
 }
 
 // A run before its first event.
@@ -56,9 +64,12 @@ pub fn start() -> Run
     ensures { λ r. ⌜ r ≡ startOfRun ⌝ }
 {
     let clock = fresh(KIND_256).clock;
+    let summary = empty();
     Run {
         clock: clock,
         place: 0,
+        summary: summary,
+        quarter: 0,
         ended: false,
     }
 }
@@ -80,11 +91,15 @@ struct Done {
     at: usize,
 }
 
-fn run_call(c: Clock, call: event::Call, out: &mut [u8], at: usize) -> Done
-    requires { ⌜ at + longestLine ≤ length (now out) ⌝ }
-    ensures { λ r. ⌜ RunsEvent c (Call call) (now (out .entry)) at (now (out .exit)) r ⌝ }
-{
-    let answer = step(c, event::Event::Call(call));
+fn run_call(
+    c: Clock,
+    call: event::Call,
+    out: &mut [u8],
+    at: usize,
+    counts: &mut [u16; QUARTERS],
+    largest: &mut [u32; QUARTERS],
+) -> Done {
+    let answer = step_in_place(c, event::Event::Call(call), counts, largest);
     let clock = answer.clock;
     let refusal = answer.refusal;
     if is_reading(call) & (refusal == 0) {
@@ -101,10 +116,14 @@ fn run_call(c: Clock, call: event::Call, out: &mut [u8], at: usize) -> Done
     }
 }
 
-fn run_event(c: Clock, e: Event, out: &mut [u8], at: usize) -> Done
-    requires { ⌜ at + longestLine ≤ length (now out) ⌝ }
-    ensures { λ r. ⌜ RunsEvent c e (now (out .entry)) at (now (out .exit)) r ⌝ }
-{
+fn run_event(
+    c: Clock,
+    e: Event,
+    out: &mut [u8],
+    at: usize,
+    counts: &mut [u16; QUARTERS],
+    largest: &mut [u32; QUARTERS],
+) -> Done {
     match e {
         Event::Ticks(n) => {
             let o = run_ticks(c, n);
@@ -115,71 +134,107 @@ fn run_event(c: Clock, e: Event, out: &mut [u8], at: usize) -> Done
                 at: next,
             }
         }
-        Event::Call(call) => run_call(c, call, out, at),
+        Event::Summary => Done { clock: c, at: at },
+        Event::Call(call) => run_call(c, call, out, at, counts, largest),
     }
 }
 
-// The run after a step, and the place after what the step wrote.
+// Where the events of a run stand.
+struct Walk {
+    clock: Clock,
+    place: usize,
+    ended: bool,
+}
+
 struct Step {
-    run: Run,
+    walk: Walk,
     at: usize,
 }
 
-fn ended_at(c: Clock, place: usize, at: usize) -> Step
-    ensures { λ r. ⌜ r ≡ endedAt c place at ⌝ }
-{
-    let run = Run {
-        clock: c,
-        place: place,
-        ended: true,
-    };
-    Step { run: run, at: at }
-}
-
-// Ends a run that has no event to run: the history is too long, or its bytes end.
-fn finish(bytes: &[u8], run: Run, out: &mut [u8], at: usize) -> Step
-    requires { ⌜ (at + longestLine ≤ length (now out)) × (run .ended ≡ false) × (noEvent (now bytes) (run .place) ≡ true) ⌝ }
-    ensures { λ r. ⌜ Steps (now (bytes .entry)) run (now (out .entry)) at (now (out .exit)) r ⌝ }
-{
-    let c = run.clock;
-    let place = run.place;
-    if LONGEST_HISTORY < bytes.len() {
-        let next = put_log(out, at, REFUSED_BEYOND, LONGEST_HISTORY as u32);
-        return ended_at(c, place, next);
-    }
-    ended_at(c, place, at)
-}
-
 // Runs what stands at the run's place.
-fn advance(bytes: &[u8], run: Run, out: &mut [u8], at: usize) -> Step
-    requires { ⌜ (at + longestLine ≤ length (now out)) × (run .ended ≡ false) ⌝ }
-    ensures { λ r. ⌜ Steps (now (bytes .entry)) run (now (out .entry)) at (now (out .exit)) r ⌝ }
-{
-    let c = run.clock;
-    let place = run.place;
-    let n = bytes.len();
-    if (n <= place) | (LONGEST_HISTORY < n) {
-        return finish(bytes, run, out, at);
-    }
+fn advance(
+    bytes: &[u8],
+    walk: Walk,
+    out: &mut [u8],
+    at: usize,
+    counts: &mut [u16; QUARTERS],
+    largest: &mut [u32; QUARTERS],
+) -> Step {
+    let c = walk.clock;
+    let place = walk.place;
     let entry = history::read(bytes, place);
     match entry {
         Entry::Refused(refusal) => {
             let next = put_log(out, at, refusal, place as u32);
-            ended_at(c, place, next)
+            let walk = Walk {
+                clock: c,
+                place: place,
+                ended: true,
+            };
+            Step {
+                walk: walk,
+                at: next,
+            }
         }
         Entry::Whole { event, next } => {
-            let done = run_event(c, event, out, at);
+            let done = run_event(c, event, out, at, counts, largest);
             let clock = done.clock;
-            let run = Run {
+            let walk = Walk {
                 clock: clock,
                 place: next,
                 ended: false,
             };
             Step {
-                run: run,
+                walk: walk,
                 at: done.at,
             }
         }
+    }
+}
+
+fn run_events(
+    bytes: &[u8],
+    start: Walk,
+    out: &mut [u8],
+    last: usize,
+    counts: &mut [u16; QUARTERS],
+    largest: &mut [u32; QUARTERS],
+) -> Step {
+    let n = bytes.len();
+    let mut walk = start;
+    let mut at = 0;
+    while !walk.ended & (walk.place < n) & (at <= last) {
+        let s = advance(bytes, walk, out, at, counts, largest);
+        let next = s.walk;
+        walk = next;
+        at = s.at;
+    }
+    Step { walk: walk, at: at }
+}
+
+struct Listed {
+    quarter: usize,
+    at: usize,
+}
+
+fn put_quarters(
+    counts: &[u16; QUARTERS],
+    largest: &[u32; QUARTERS],
+    first: usize,
+    out: &mut [u8],
+    start: usize,
+    last: usize,
+) -> Listed {
+    let mut quarter = first;
+    let mut at = start;
+    while (quarter < QUARTERS) & (at <= last) {
+        let next = put_quarter(out, at, quarter as u32, counts[quarter], largest[quarter]);
+        at = next;
+        quarter = quarter + 1;
+    }
+    Listed {
+        quarter: quarter,
+        at: at,
     }
 }
 
@@ -190,6 +245,33 @@ pub struct Filling {
     pub refusal: u8,
     pub run: Run,
     pub length: usize,
+}
+
+fn filled(
+    clock: Clock,
+    place: usize,
+    counts: [u16; QUARTERS],
+    largest: [u32; QUARTERS],
+    quarter: usize,
+    ended: bool,
+    length: usize,
+) -> Filling {
+    let summary = Summary {
+        counts: counts,
+        largest: largest,
+    };
+    let run = Run {
+        clock: clock,
+        place: place,
+        summary: summary,
+        quarter: quarter,
+        ended: ended,
+    };
+    Filling {
+        refusal: 0,
+        run: run,
+        length: length,
+    }
 }
 
 // Goes on with a run until it has ended or the buffer has no room for one more line. Later bytes of the
@@ -213,17 +295,52 @@ pub fn fill(bytes: &[u8], run: Run, out: &mut [u8]) -> Filling
         };
     }
     let last = room - LONGEST_LINE;
-    let mut now = run;
-    let mut at = 0;
-    while !now.ended & (at <= last) {
-        let s = advance(bytes, now, out, at);
-        let next = s.run;
-        now = next;
-        at = s.at;
+    let clock = run.clock;
+    let m = run.summary;
+    let mut counts = m.counts;
+    let mut largest = m.largest;
+    if LONGEST_HISTORY < bytes.len() {
+        let length = put_log(out, 0, REFUSED_BEYOND, LONGEST_HISTORY as u32);
+        return filled(clock, run.place, counts, largest, run.quarter, true, length);
     }
-    Filling {
-        refusal: 0,
-        run: now,
-        length: at,
+    let walk = Walk {
+        clock: clock,
+        place: run.place,
+        ended: false,
+    };
+    let s = run_events(bytes, walk, out, last, &mut counts, &mut largest);
+    let walked = s.walk;
+    let clock = walked.clock;
+    if walked.ended | (walked.place < bytes.len()) | (last < s.at) {
+        return filled(
+            clock,
+            walked.place,
+            counts,
+            largest,
+            run.quarter,
+            walked.ended,
+            s.at,
+        );
     }
+    if !asks_summary(bytes) {
+        return filled(
+            clock,
+            walked.place,
+            counts,
+            largest,
+            run.quarter,
+            true,
+            s.at,
+        );
+    }
+    let l = put_quarters(&counts, &largest, run.quarter, out, s.at, last);
+    filled(
+        clock,
+        walked.place,
+        counts,
+        largest,
+        l.quarter,
+        !(l.quarter < QUARTERS) & (l.at <= last),
+        l.at,
+    )
 }

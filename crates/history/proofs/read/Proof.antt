@@ -11,7 +11,7 @@ use borrow.Author.Needs.{needs}
 use Rattle.history.proofs.read.Statement.{statement}
 use Rattle.history.proofs.read.Tie as tie
 
-opened : (s : List ℕ) (at : ℕ) → eventAt s at ≡ then refused (numberAt s at) (λ code next. argumentsAt code s next)
+opened : (s : List ℕ) (at : ℕ) → eventAt s at ≡ then refused (numberAt s at) (λ code next. argumentsAt at code s next)
 unfolding eventAt
 opened s at = refl
 
@@ -21,7 +21,7 @@ b0 c = record { all = _; ends = _; found = _; go = _; is = opened (c .before .ar
 -- the code was read, and x is what it brings
 brought : (c : tie.After-known-told) {x : Found}
     → let a = c .before .before .before .before .before .args in
-    x ≡ argumentsAt (c .before .d .given .0 .0) (a .bytes .now) (c .before .d .given .0 .1 .0) → x ≡ eventAt (a .bytes .now) (a .at)
+    x ≡ argumentsAt (a .at) (c .before .d .given .0 .0) (a .bytes .now) (c .before .d .given .0 .1 .0) → x ≡ eventAt (a .bytes .now) (a .at)
 brought c e = e ∙ sym (went (b0 (c .before .before .before .before)) (c .before .before .before .read .ensures) (ap told (c .before .d .given .1)))
 
 read-requires : tie.Need-read-requires
@@ -51,6 +51,9 @@ request-at-requires c κs = search needs
 called-requires : tie.Need-called-requires
 called-requires c κs = search needs
 
+other-at-requires : tie.Need-other-at-requires
+other-at-requires c κs = search needs
+
 returns-2 : tie.Need-returns-2
 unfolding argumentsAt
 returns-2 c = brought (c .before .before) (simp (c .before .match2 .keys1) (c .ticks-at .ensures))
@@ -69,7 +72,11 @@ returns-5 c = brought (c .before .before) (simp (c .before .match2 .keys4) (c .c
 
 returns-6 : tie.Need-returns-6
 unfolding argumentsAt
-returns-6 c = brought (c .before) (simp (ne-eqb _ _ (c .match2 .rest .1), ne-eqb _ _ (c .match2 .rest .0 .1), ne-eqb _ _ (c .match2 .rest .0 .0 .1), ne-eqb _ _ (c .match2 .rest .0 .0 .0 .1)))
+returns-6 c =
+    let no = c .before .match2 .rest in
+    brought (c .before .before)
+    (simp (ne-eqb _ _ (no .1), ne-eqb _ _ (no .0 .1), ne-eqb _ _ (no .0 .0 .1), ne-eqb _ _ (no .0 .0 .0 .1))
+    (c .other-at .ensures))
 
 pub read-spec : {M : Type 1} → statement M
 read-spec =
@@ -84,6 +91,7 @@ read-spec =
     setting-at-requires
     request-at-requires
     called-requires
+    other-at-requires
     returns-2
     returns-3
     returns-4
