@@ -1,1 +1,2 @@
 pub mod Extent
+pub mod Asking
