@@ -16,7 +16,7 @@ use Rattle.event.specs.declared.event.Event.{Event}
 use Rattle.event.specs.declared.event.Event.the-variants.{Call, CatchUp}
 use Rattle.bounds.specs.Calls.{takesOffset}
 use Rattle.summary.specs.declared.cells.Summary.{Summary}
-use Rattle.summary.specs.declared.step.Summed.{Summed}
+use Rattle.summary.specs.declared.counting.Summed.{Summed}
 
 -- "96 quarter-hours of the UTC day"
 abbrev pub quarters : ℕ

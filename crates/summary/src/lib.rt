@@ -1,10 +1,10 @@
 // A summary of accepted offsets by the quarter-hours of the UTC day.
 mod cells;
-mod step;
+mod counting;
 
 pub use cells::QUARTERS;
 pub use cells::Summary;
 pub use cells::empty;
-pub use step::Summed;
-pub use step::step;
-pub use step::step_in_place;
+pub use counting::Summed;
+pub use counting::step;
+pub use counting::step_in_place;
