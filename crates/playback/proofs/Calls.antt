@@ -1,6 +1,6 @@
 -- The clock of a run is the clock after the list of its calls, so that demand 3 holds of every history.
 use mathlib.Core.Path.{_≡_, refl, sym, _∙_, ap}
-use mathlib.Core.Bool.{Bool, true, false}
+use mathlib.Core.Bool.{Bool, true, false, _&&_}
 use mathlib.Core.List.{List, [], _∷_, _++_, append-assoc}
 use Prim.Native.Nat.{ℕ, zero, suc, _+_, _-_, _<_, _≤_}
 use native.Mathlib.Omega.{arith}
@@ -22,21 +22,26 @@ use Rattle.bounds.specs.Singly.{singleTicks, asEvents}
 use Rattle.bounds.proofs.Runs.{after-append}
 use Rattle.bounds.proofs.Theorem.{demand3}
 use Rattle.history.specs.declared.Event.{Event}
-use Rattle.history.specs.declared.Event.the-variants.{Ticks, Call}
-use Rattle.history.specs.Event.{Found, found, refused, eventAt}
+use Rattle.history.specs.declared.Event.the-variants.{Ticks, Summary, Call}
+use Rattle.history.specs.Event.{Found, found, refused, eventAt, asksSummary}
 use Rattle.history.specs.Properties.{Past}
 use Rattle.history.proofs.Extent.{event-past}
 use Rattle.clock.specs.Ticks.{ranOf, ticksOf}
 use Rattle.clock.proofs.RunLaws.{ticks-one-more}
 use Rattle.playback.specs.Lines.{printLine}
-use Rattle.playback.specs.Event.{outcomeOf, lineOf}
-use Rattle.playback.specs.Run.{Advanced, longestHistory, startOfRun, endOf, step, runAfter, linesOf}
+use Rattle.summary.specs.Summary.{quarters, emptySummary}
+use Rattle.summary.specs.Afresh.{carriedBy, carried}
+use Rattle.summary.specs.declared.cells.Summary as summary
+use Rattle.summary.proofs.Carried.{carried-append, ticks-carried}
+use Rattle.playback.specs.Event.{outcomeOf, lineOf, summaryAfter}
+use Rattle.playback.specs.Run.{Advanced, longestHistory, startOfRun, endOf, past, step, runAfter, linesOf}
 use Rattle.playback.specs.Run.{stepsToEnd, replayOf}
 use Rattle.playback.specs.Calls.{callsOfEvent, callsFrom, callsOfFirst, allCalls, replayer, joined}
 use Rattle.playback.specs.Calls.{PrintAt, Tells, Demand3OfEveryHistory}
 use Rattle.playback.specs.declared.run.Run.{Run}
 use Rattle.playback.proofs.LineLaws.{reading-sound, line-print}
-use Rattle.playback.proofs.RunLaws.{step-long, step-end, step-found, lines-more, run-ended, start-ends}
+use Rattle.playback.proofs.RunLaws.{step-ended, step-long, step-end, step-quarter, step-found}
+use Rattle.playback.proofs.RunLaws.{lines-more, run-ended, start-ends}
 
 -- ---- the clock after the calls of an event
 
@@ -71,19 +76,57 @@ ticks-after (suc n) c = by-tick n c (ticks-after n (tickOf c .clock)) (eqb (tick
 event-after : (c : Clock) (e : Event) → after c (callsOfEvent e) ≡ outcomeOf c e .clock
 unfolding afterBy outcomeOf
 event-after c (Ticks n) = ticks-after n c
+event-after c Summary = refl
 event-after c (Call e) = refl
+
+-- the summary that is carried along them
+event-carried : (c : Clock) (e : Event) (m : summary.Summary) → carried c (callsOfEvent e) m ≡ summaryAfter c e m
+unfolding carriedBy summaryAfter
+event-carried c (Ticks n) m = ticks-carried n c m
+event-carried c Summary m = refl
+event-carried c (Call e) m = refl
 
 -- ---- the clock after the calls of the events so far
 
-abbrev standing : Clock → ℕ → Run
-standing c at = record { clock = c; place = at; ended = false }
+-- the run has come no further: it has the same clock and summary, at the same place
+record Rests (now r : Run) : Type 0 where
+  clock : now .clock ≡ r .clock
+  place : now .place ≡ r .place
+  summary : now .summary ≡ r .summary
+
+rests-then : {a b c : Run} → Rests a b → Rests b c → Rests a c
+rests-then x y = record { clock = x .clock ∙ y .clock; place = x .place ∙ y .place; summary = x .summary ∙ y .summary }
+
+rests-as : {a b : Run} → a ≡ b → Rests a b
+rests-as e =
+    record { clock = ap (λ (x : Run). x .clock) e; place = ap (λ (x : Run). x .place) e; summary = ap (λ (x : Run). x .summary) e }
+
+rests-ended : (r : Run) → Rests (endOf r) r
+rests-ended r = record { clock = refl; place = refl; summary = refl }
 
 module _ (s : List ℕ) (fits : length s ≤ longestHistory) where
+  -- at the end of the bytes a step moves nothing but the quarter-hour
+  by-quarter : (r : Run) → r .ended ≡ false → length s ≤ r .place → (b : Bool) → (asksSummary s && ltb (r .quarter) quarters) ≡ b
+      → Rests (step s r .run) r
+  by-quarter r going over true t = rw (step-quarter s r going fits over t) (record { clock = refl; place = refl; summary = refl })
+  by-quarter r going over false t = rw (step-end s r going fits over t) (rests-ended r)
+
+  step-rests : (r : Run) → length s ≤ r .place → (b : Bool) → r .ended ≡ b → Rests (step s r .run) r
+  step-rests r over true t = rests-as (ap (λ (a : Advanced). a .run) (step-ended s r t))
+  step-rests r over false t = by-quarter r t over _ refl
+
+  rests : (k : ℕ) (r : Run) → length s ≤ r .place → Rests (runAfter k s r) r
+  unfolding runAfter
+  rests zero r over = rests-as refl
+  rests (suc k) r over =
+      let x = step-rests r over (r .ended) refl in
+      rests-then (rests k (step s r .run) (omega (arith, x .place))) x
+
   -- what a run does next, and which calls it makes
-  data Next (c : Clock) (at : ℕ) : Type 0 where
-    stops : ((k : ℕ) → callsFrom k s at ≡ []) → step s (standing c at) .run ≡ endOf (standing c at) → Next c at
-    goes : (e : Event) (next : ℕ) → ((k : ℕ) → callsFrom (suc k) s at ≡ callsOfEvent e ++ callsFrom k s next)
-        → step s (standing c at) .run ≡ standing (outcomeOf c e .clock) next → Next c at
+  data Next (r : Run) : Type 0 where
+    stops : ((k : ℕ) → callsFrom k s (r .place) ≡ []) → ((k : ℕ) → Rests (runAfter k s r) r) → Next r
+    goes : (e : Event) (next : ℕ) → ((k : ℕ) → callsFrom (suc k) s (r .place) ≡ callsOfEvent e ++ callsFrom k s next)
+        → step s r .run ≡ past r e next → Next r
 
   none-at-end : (at : ℕ) → length s ≤ at → (k : ℕ) → callsFrom k s at ≡ []
   unfolding callsFrom
@@ -100,64 +143,90 @@ module _ (s : List ℕ) (fits : length s ≤ longestHistory) where
   unfolding callsFrom
   some-found at e next h i k = simp (lt-leb _ _ h, i)
 
-  module _ (c : Clock) (at : ℕ) where
-    by-found : at < length s → (x : Found) → eventAt s at ≡ x → Next c at
-    by-found h (found e next) i = goes e next (some-found at e next h i) (rw (step-found s (standing c at) refl fits h i))
-    by-found h (refused n) i = stops (none-refused at n h i) (rw (step-found s (standing c at) refl fits h i))
+  module _ (r : Run) (going : r .ended ≡ false) where
+    -- undecodable bytes end it
+    rests-refused : (n : ℕ) → r .place < length s → eventAt s (r .place) ≡ refused n → (k : ℕ) → Rests (runAfter k s r) r
+    unfolding runAfter
+    rests-refused n h i zero = rests-as refl
+    rests-refused n h i (suc k) =
+        let e = ap (λ (a : Advanced). a .run) (step-found s r going fits h i) in
+        rests-then (rests-as (ap (runAfter k s) e ∙ run-ended s k (endOf r) refl)) (rests-ended r)
 
-    by-place : (b : Bool) → leb (length s) at ≡ b → Next c at
-    by-place true t = let h = leb-true _ _ t in stops (none-at-end at h) (rw (step-end s (standing c at) refl fits h))
-    by-place false t = by-found (leb-false _ _ t) (eventAt s at) refl
+    by-found : r .place < length s → (x : Found) → eventAt s (r .place) ≡ x → Next r
+    by-found h (found e next) i = goes e next (some-found (r .place) e next h i) (rw (step-found s r going fits h i))
+    by-found h (refused n) i = stops (none-refused (r .place) n h i) (rests-refused n h i)
 
-    next-of : Next c at
-    next-of = by-place (leb (length s) at) refl
+    by-place : (b : Bool) → leb (length s) (r .place) ≡ b → Next r
+    by-place true t = let h = leb-true _ _ t in stops (none-at-end (r .place) h) (λ k. rests k r h)
+    by-place false t = by-found (leb-false _ _ t) (eventAt s (r .place)) refl
 
-  -- the clock after k steps
-  ClockFrom : ℕ → Type 0
-  ClockFrom k = (c : Clock) (at : ℕ) → runAfter k s (standing c at) .clock ≡ after c (callsFrom k s at)
+    next-of : Next r
+    next-of = by-place (leb (length s) (r .place)) refl
 
-  clock-more : (k : ℕ) → ClockFrom k → (c : Clock) (at : ℕ) → Next c at → runAfter (suc k) s (standing c at) .clock ≡ after c (callsFrom (suc k) s at)
-  unfolding ClockFrom runAfter afterBy
-  clock-more k f c at (stops none e) =
-      ap (λ (r : Run). runAfter k s r .clock) e ∙ ap (λ (r : Run). r .clock) (run-ended s k (endOf (standing c at)) refl) ∙ ap (after c) (sym (none (suc k)))
-  clock-more k f c at (goes v next some e) =
-      ap (λ (r : Run). runAfter k s r .clock) e
-      ∙ f (outcomeOf c v .clock) next
-      ∙ ap (λ (d : Clock). after d (callsFrom k s next)) (sym (event-after c v))
-      ∙ sym (after-append stepOf c (callsOfEvent v) (callsFrom k s next))
-      ∙ ap (after c) (sym (some k))
+  -- the clock and the summary after k steps
+  record From (k : ℕ) (r : Run) : Type 0 where
+    clock : runAfter k s r .clock ≡ after (r .clock) (callsFrom k s (r .place))
+    summary : runAfter k s r .summary ≡ carried (r .clock) (callsFrom k s (r .place)) (r .summary)
 
-  clock-from : (k : ℕ) → ClockFrom k
-  unfolding ClockFrom runAfter afterBy callsFrom
-  clock-from zero c at = refl
-  clock-from (suc k) c at = clock-more k (clock-from k) c at (next-of c at)
+  AllFrom : ℕ → Type 0
+  AllFrom k = (r : Run) → r .ended ≡ false → From k r
+
+  from-more : (k : ℕ) → AllFrom k → (r : Run) → Next r → From (suc k) r
+  unfolding AllFrom runAfter afterBy carriedBy
+  from-more k f r (stops none x) =
+      record {
+        clock = x (suc k) .clock ∙ ap (after (r .clock)) (sym (none (suc k)));
+        summary = x (suc k) .summary ∙ ap (λ (es : List call.Event). carried (r .clock) es (r .summary)) (sym (none (suc k)));
+      }
+  from-more k f r (goes v next some e) =
+      let g = f (past r v next) refl in
+      record {
+        clock =
+            ap (λ (x : Run). runAfter k s x .clock) e
+            ∙ g .clock
+            ∙ ap (λ (d : Clock). after d (callsFrom k s next)) (sym (event-after (r .clock) v))
+            ∙ sym (after-append stepOf (r .clock) (callsOfEvent v) (callsFrom k s next))
+            ∙ ap (after (r .clock)) (sym (some k));
+        summary =
+            ap (λ (x : Run). runAfter k s x .summary) e
+            ∙ g .summary
+            ∙ ap (λ (d : Clock). carried d (callsFrom k s next) (summaryAfter (r .clock) v (r .summary))) (sym (event-after (r .clock) v))
+            ∙ ap (carried (after (r .clock) (callsOfEvent v)) (callsFrom k s next)) (sym (event-carried (r .clock) v (r .summary)))
+            ∙ sym (carried-append (r .clock) (callsOfEvent v) (callsFrom k s next) (r .summary))
+            ∙ ap (λ (es : List call.Event). carried (r .clock) es (r .summary)) (sym (some k));
+      }
+
+  from : (k : ℕ) → AllFrom k
+  unfolding AllFrom runAfter afterBy carriedBy callsFrom
+  from zero r going = record { clock = refl; summary = refl }
+  from (suc k) r going = from-more k (from k) r (next-of r going)
 
   -- the calls of k events and of m more, from where the run stands after k steps
   CallsOn : ℕ → ℕ → Type 0
-  CallsOn m k = (c : Clock) (at : ℕ) → callsFrom (k + m) s at ≡ callsFrom k s at ++ callsFrom m s (runAfter k s (standing c at) .place)
+  CallsOn m k = (r : Run) → r .ended ≡ false
+      → callsFrom (k + m) s (r .place) ≡ callsFrom k s (r .place) ++ callsFrom m s (runAfter k s r .place)
 
-  calls-more : (m k : ℕ) → CallsOn m k → (c : Clock) (at : ℕ) → Next c at
-      → callsFrom (suc k + m) s at ≡ callsFrom (suc k) s at ++ callsFrom m s (runAfter (suc k) s (standing c at) .place)
+  calls-more : (m k : ℕ) → CallsOn m k → (r : Run) → Next r
+      → callsFrom (suc k + m) s (r .place) ≡ callsFrom (suc k) s (r .place) ++ callsFrom m s (runAfter (suc k) s r .place)
   unfolding CallsOn runAfter
-  calls-more m k f c at (stops none e) =
+  calls-more m k f r (stops none x) =
       none (suc k + m)
       ∙ sym (none m)
-      ∙ ap (λ (r : Run). callsFrom m s (r .place)) (sym (run-ended s k (endOf (standing c at)) refl))
-      ∙ ap (λ (r : Run). callsFrom m s (runAfter k s r .place)) (sym e)
-      ∙ ap (λ (es : List call.Event). es ++ callsFrom m s (runAfter (suc k) s (standing c at) .place)) (sym (none (suc k)))
-  calls-more m k f c at (goes v next some e) =
+      ∙ ap (callsFrom m s) (sym (x (suc k) .place))
+      ∙ ap (λ (es : List call.Event). es ++ callsFrom m s (runAfter (suc k) s r .place)) (sym (none (suc k)))
+  calls-more m k f r (goes v next some e) =
       let i : suc k + m ≡ suc (k + m) = omega arith in
-      ap (λ (j : ℕ). callsFrom j s at) i
+      ap (λ (j : ℕ). callsFrom j s (r .place)) i
       ∙ some (k + m)
-      ∙ ap (λ (es : List call.Event). callsOfEvent v ++ es) (f (outcomeOf c v .clock) next)
+      ∙ ap (λ (es : List call.Event). callsOfEvent v ++ es) (f (past r v next) refl)
       ∙ sym (append-assoc (callsOfEvent v) (callsFrom k s next) _)
-      ∙ ap (λ (r : Run). (callsOfEvent v ++ callsFrom k s next) ++ callsFrom m s (runAfter k s r .place)) (sym e)
-      ∙ ap (λ (es : List call.Event). es ++ callsFrom m s (runAfter (suc k) s (standing c at) .place)) (sym (some k))
+      ∙ ap (λ (x : Run). (callsOfEvent v ++ callsFrom k s next) ++ callsFrom m s (runAfter k s x .place)) (sym e)
+      ∙ ap (λ (es : List call.Event). es ++ callsFrom m s (runAfter (suc k) s r .place)) (sym (some k))
 
   calls-on : (m k : ℕ) → CallsOn m k
   unfolding CallsOn runAfter callsFrom
-  calls-on m zero c at = let i : zero + m ≡ m = omega arith in ap (λ (j : ℕ). callsFrom j s at) i
-  calls-on m (suc k) c at = calls-more m k (calls-on m k) c at (next-of c at)
+  calls-on m zero r going = let i : zero + m ≡ m = omega arith in ap (λ (j : ℕ). callsFrom j s (r .place)) i
+  calls-on m (suc k) r going = calls-more m k (calls-on m k) r (next-of r going)
 
 -- an accepted reading tells what the clock shows, and that is printed
 reading-shown : (c : Clock) → stepOf c (single Reading) .refusal ≡ 0 → stepOf c (single Reading) .reading ≡ shown c
@@ -169,20 +238,31 @@ print-shown c z = sym (line-print c Reading refl z)
 
 module _ (s : List ℕ) where
   -- nothing is run of a history that is too long
-  long-clock : longestHistory < length s → (k : ℕ) → runAfter k s startOfRun .clock ≡ freshClock kind256
+  long-rests : longestHistory < length s → (k : ℕ) → Rests (runAfter k s startOfRun) startOfRun
   unfolding runAfter
-  long-clock h zero = refl
-  long-clock h (suc k) =
-      ap (λ (a : Advanced). runAfter k s (a .run) .clock) (step-long s startOfRun refl h)
-      ∙ ap (λ (r : Run). r .clock) (run-ended s k (endOf startOfRun) refl)
+  long-rests h zero = rests-as refl
+  long-rests h (suc k) =
+      rests-then
+      (rests-as (ap (λ (a : Advanced). runAfter k s (a .run)) (step-long s startOfRun refl h) ∙ run-ended s k (endOf startOfRun) refl))
+      (rests-ended startOfRun)
 
-  by-length : (k : ℕ) (b : Bool) → ltb longestHistory (length s) ≡ b → runAfter k s startOfRun .clock ≡ clockAfter kind256 (callsOfFirst k s)
-  unfolding callsOfFirst afterBy ClockFrom
-  by-length k true t = simp t (long-clock (ltb-true _ _ t) k)
-  by-length k false t = simp t (clock-from s (ltb-false _ _ t) k (freshClock kind256) 0)
+  -- the clock and the summary after the first k steps
+  record First (k : ℕ) : Type 0 where
+    clock : runAfter k s startOfRun .clock ≡ clockAfter kind256 (callsOfFirst k s)
+    summary : runAfter k s startOfRun .summary ≡ carried (freshClock kind256) (callsOfFirst k s) emptySummary
+
+  by-length : (k : ℕ) (b : Bool) → ltb longestHistory (length s) ≡ b → First k
+  unfolding callsOfFirst afterBy carriedBy AllFrom
+  by-length k true t = let x = long-rests (ltb-true _ _ t) k in record { clock = simp t (x .clock); summary = simp t (x .summary) }
+  by-length k false t =
+      let x = from s (ltb-false _ _ t) k startOfRun refl in
+      record { clock = simp t (x .clock); summary = simp t (x .summary) }
+
+  first-of : (k : ℕ) → First k
+  first-of k = by-length k (ltb longestHistory (length s)) refl
 
   clocks : (k : ℕ) → runAfter k s startOfRun .clock ≡ clockAfter kind256 (callsOfFirst k s)
-  clocks k = by-length k (ltb longestHistory (length s)) refl
+  clocks k = first-of k .clock
 
   module _ (k : ℕ) (p : PrintAt s k) where
     abbrev now : Run
@@ -194,12 +274,12 @@ module _ (s : List ℕ) where
     inside : Past s (now .place) (p .next)
     inside = event-past s (now .place) _ _ (p .print)
 
-    before-end : (b : Bool) → leb (stepsToEnd s) k ≡ b → k ≤ length s
+    before-end : (b : Bool) → leb (stepsToEnd s) k ≡ b → k < stepsToEnd s
     before-end true t = absurd (let e = start-ends s k (leb-true _ _ t) in let w : _≡_ {A = ℕ} 0 1 = cc (p .going) in omega arith)
-    before-end false t = omega (arith, leb-false (stepsToEnd s) k t)
+    before-end false t = leb-false (stepsToEnd s) k t
 
     more : ℕ
-    more = length s - k
+    more = stepsToEnd s - suc k
 
     counted : stepsToEnd s ≡ k + suc more
     unfolding more
@@ -210,7 +290,7 @@ module _ (s : List ℕ) where
     among =
         simp (le-ltb longestHistory (length s) fits)
         (ap (λ (j : ℕ). callsFrom j s 0) counted
-        ∙ calls-on s fits (suc more) k (freshClock kind256) 0
+        ∙ calls-on s fits (suc more) k startOfRun refl
         ∙ ap (λ (es : List call.Event). callsFrom k s 0 ++ es)
         (some-found s fits (now .place) (Call Reading) (p .next) (omega (arith, inside)) (p .print) more))
 

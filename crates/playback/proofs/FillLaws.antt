@@ -1,118 +1,108 @@
 -- A buffer that is filled by steps of a run, one after the other.
 use mathlib.Core.Path.{_≡_, refl, sym, _∙_, ap}
-use mathlib.Core.Bool.{Bool, true, false, not, _&&_, _||_}
-use mathlib.Core.List.{List}
+use mathlib.Core.Bool.{Bool, true, false}
+use mathlib.Core.List.{List, _++_, append-nil}
 use mathlib.Core.Logic.{_⊎_, inl, inr, ⊎-elim}
 use Prim.Native.Nat.{ℕ, zero, suc, _+_, _-_, _<_, _≤_}
 use native.Mathlib.Omega.{arith}
 use lib.Dec.{leb}
-use lib.ListN.{length, take, drop}
-use lib.Seq.{drop-drop, length-take-le}
+use lib.ListN.{length, length-append}
+use lib.Seq.{length-take-le}
 use borrow.Author.Tests.{lt-ltb, le-ltb, leb-true, leb-false}
 use Rattle.playback.specs.Run.{Advanced, step, runAfter, linesOf}
 use Rattle.playback.specs.Filling.{longestLine, fillRefusal, GoesOn, Fills}
-use Rattle.playback.specs.Inner.{Puts, Steps}
+use Rattle.playback.specs.Inner.{Puts, Steps, Going, Made}
 use Rattle.playback.specs.declared.run.Run.{Run}
-use Rattle.playback.specs.declared.run.Step.{Step}
 use Rattle.playback.specs.declared.run.Filling.{Filling}
-use Rattle.playback.proofs.Buffers.{puts-take, puts-drop, puts-length}
-use Rattle.playback.proofs.RunLaws.{run-more, lines-more, left, left-less, steps-less}
-
--- no event is left to run, though the history is not too long: its bytes end
-pub either-end : (a b : Bool) → (a || b) ≡ true → b ≡ false → a ≡ true
-either-end true b t f = refl
-either-end false b t f = sym f ∙ t
-
--- an event is left to run
-pub neither : (a b : Bool) → (a || b) ≡ false → (a ≡ false) × (b ≡ false)
-neither true b t = absurd (let w : _≡_ {A = ℕ} 0 1 = cc in omega arith)
-neither false b t = (refl, t)
-
--- the loop does not go on: the run has ended, or there is no room
-halts : (b c : Bool) → (not b && c) ≡ false → (b ≡ true) ⊎ (c ≡ false)
-halts true c t = inl refl
-halts false c t = inr t
+use Rattle.playback.proofs.Buffers.{puts-none, puts-then, puts-as, puts-take, puts-drop, puts-length}
+use Rattle.playback.proofs.RunLaws.{run-append, lines-append, left, left-less, steps-less}
 
 -- a step by what it leads to and what it prints
-pub stepped : {s : List ℕ} {run : Run} {buf buf′ : List ℕ} {at q : ℕ} {r : Step} {a : Advanced} → step s run ≡ a → r ≡ record { run = a .run; at = q }
-    → Puts (a .line) buf at buf′ q → length (a .line) ≤ longestLine → Steps s run buf at buf′ r
-stepped e i p l = rw (i) (record { line = rw (e) p; small = rw (e) l; stands = rw (e) })
+pub stepped : {s : List ℕ} {run now : Run} {buf buf′ : List ℕ} {at q : ℕ} {a : Advanced} → step s run ≡ a → now ≡ a .run
+    → Puts (a .line) buf at buf′ q → length (a .line) ≤ longestLine → Steps s run buf at buf′ now q
+stepped e i p l = record { line = rw (e) p; small = rw (e) l; stands = i ∙ ap (λ (x : Advanced). x .run) (sym e) }
+
+module _ (s : List ℕ) where
+  -- no step
+  pub made-none : (run : Run) (buf : List ℕ) (at : ℕ) → at ≤ length buf → Made s run buf at buf run at
+  unfolding runAfter linesOf
+  made-none run buf at h =
+      record { steps = 0; onward = λ k h. absurd (omega arith); stands = refl; lines = puts-none buf at; within = omega arith }
+
+  -- one step, where there is room for a line
+  pub made-one : {run now : Run} {buf buf′ : List ℕ} {at next : ℕ} → run .ended ≡ false → at + longestLine ≤ length buf
+      → Steps s run buf at buf′ now next → Made s run buf at buf′ now next
+  unfolding runAfter linesOf
+  made-one {run} {now} {buf} {buf′} {at} {next} going room x =
+      record {
+        steps = 1;
+        onward = λ k h. first k (omega arith);
+        stands = x .stands;
+        lines = puts-as (sym (append-nil (step s run .line))) (x .line);
+        within = omega (arith, x .line .place, x .small);
+      }
+    where
+    first : (k : ℕ) → k ≡ 0 → Going s run (length buf) at k
+    first k e = rw (e) (record { going = going; enough = omega arith })
+
+  -- some steps, and then others
+  module _ {run mid now : Run} {buf buf₁ buf₂ : List ℕ} {at p q : ℕ} (a : Made s run buf at buf₁ mid p) (b : Made s mid buf₁ p buf₂ now q) where
+    same : length buf₁ ≡ length buf
+    same = puts-length (a .lines)
+
+    later : (k : ℕ) → a .steps ≤ k → k < a .steps + b .steps → Going s run (length buf) at k
+    later k l h =
+        let j = k - a .steps in
+        let e : a .steps + j ≡ k = omega arith in
+        let g = b .onward j (omega arith) in
+        let r : runAfter (a .steps + j) s run ≡ runAfter j s mid = run-append s (a .steps) j run ∙ ap (runAfter j s) (sym (a .stands)) in
+        let w : linesOf (a .steps + j) s run ≡ linesOf (a .steps) s run ++ linesOf j s mid =
+        lines-append s (a .steps) j run ∙ ap (λ (x : Run). linesOf (a .steps) s run ++ linesOf j s x) (sym (a .stands)) in
+        let there : Going s run (length buf) at (a .steps + j) = record {
+          going = ap (λ (x : Run). x .ended) r ∙ g .going;
+          enough = rw (w, length-append (linesOf (a .steps) s run) (linesOf j s mid)) (omega (arith, g .enough, a .lines .place, same));
+        } in
+        rw (e) at there
+
+    each : (k : ℕ) → k < a .steps + b .steps → (t : Bool) → leb (a .steps) k ≡ t → Going s run (length buf) at k
+    each k h true t = later k (leb-true _ _ t) h
+    each k h false t = a .onward k (leb-false _ _ t)
+
+    pub made-then : Made s run buf at buf₂ now q
+    made-then =
+        record {
+          steps = a .steps + b .steps;
+          onward = λ k h. each k h (leb (a .steps) k) refl;
+          stands = b .stands ∙ ap (runAfter (b .steps) s) (a .stands) ∙ sym (run-append s (a .steps) (b .steps) run);
+          lines =
+              puts-as
+              (ap (λ (x : Run). linesOf (a .steps) s run ++ linesOf (b .steps) s x) (a .stands)
+              ∙ sym (lines-append s (a .steps) (b .steps) run))
+              (puts-then (a .lines) (b .lines));
+          within = omega (arith, b .within, same);
+        }
 
 module _ (s : List ℕ) (run : Run) (buf : List ℕ) where
-  -- after `steps` steps the run stands at `now`, and the first `at` bytes of the buffer `out` are their lines
-  pub record Put (out : List ℕ) (now : Run) (at : ℕ) : Type 0 where
-    pub steps : ℕ
-    pub onward : (k : ℕ) → k < steps → GoesOn s run (length buf) k
-    pub stands : now ≡ runAfter steps s run
-    pub written : take at out ≡ linesOf steps s run
-    pub later : drop at out ≡ drop at buf
-    pub same : length out ≡ length buf
-    pub within : at ≤ length buf
-
-  pub put-none : Put buf run 0
-  unfolding runAfter linesOf
-  put-none =
-      record { steps = 0; onward = λ k h. absurd (omega arith); stands = refl; written = refl; later = refl; same = refl; within = omega arith }
-
-  module _ {out out′ : List ℕ} {now : Run} {at : ℕ} {r : Step} (going : now .ended ≡ false) (p : Put out now at) (x : Steps s now out at out′ r)
-      (room : at + longestLine ≤ length buf) where
-    fits : at + length (step s now .line) ≤ length out
-    fits = omega (arith, p .same, x .small)
-
-    -- the run goes on after the steps so far
-    goes : GoesOn s run (length buf) (p .steps)
-    goes =
-        record {
-          going = cc (p .stands);
-          enough = omega (arith, ap length (p .written), length-take-le at out (omega (arith, p .same, p .within)));
-        }
-
-    -- and after one more
-    earlier : (k : ℕ) → k < suc (p .steps) → (b : Bool) → leb (p .steps) k ≡ b → GoesOn s run (length buf) k
-    earlier k h true t = let e : p .steps ≡ k = omega (arith, leb-true (p .steps) k t) in rw (e) at goes
-    earlier k h false t = p .onward k (leb-false _ _ t)
-
-    pub put-step : Put out′ (r .run) (r .at)
-    put-step =
-        record {
-          steps = suc (p .steps);
-          onward = λ k h. earlier k h (leb (p .steps) k) refl;
-          stands = x .stands ∙ ap (λ (r : Run). step s r .run) (p .stands) ∙ sym (run-more s (p .steps) run);
-          written = puts-take (x .line) fits ∙ rw (p .written, p .stands, lines-more s (p .steps) run);
-          later =
-              puts-drop (x .line) fits
-              ∙ ap (λ (k : ℕ). drop k out) (x .line .place)
-              ∙ sym (drop-drop (length (step s now .line)) at out)
-              ∙ ap (drop (length (step s now .line))) (p .later)
-              ∙ drop-drop (length (step s now .line)) at buf
-              ∙ ap (λ (k : ℕ). drop k buf) (sym (x .line .place));
-          same = puts-length (x .line) ∙ p .same;
-          within = omega (arith, x .line .place, x .small);
-        }
-
-    pub less-left : left s (r .run) < left s now
-    less-left = rw (x .stands) (left-less s now going)
-
-  -- the loop ended: the run did, or there is no room for one more line
-  pub put-all : {out : List ℕ} {now : Run} {at : ℕ} → run .ended ≡ false → longestLine ≤ length buf → Put out now at
-      → (not (now .ended) && leb at (length buf - longestLine)) ≡ false
-      → Fills s run buf out (record { refusal = 0; run = now; length = at })
-  put-all {out} {now} {at} going l p t =
+  -- what was made in a whole buffer, where it stopped: the run has ended, or there is no room for one more line
+  pub made-all : {out : List ℕ} {now : Run} {n : ℕ} {r : Filling} → run .ended ≡ false → longestLine ≤ length buf
+      → Made s run buf 0 out now n → (now .ended ≡ true) ⊎ (length buf < n + longestLine)
+      → r ≡ record { refusal = 0; run = now; length = n } → Fills s run buf out r
+  made-all {out} {now} {n} {r} going l m stop e =
       let none : 0 ≡ fillRefusal run (length buf) = simp (going, le-ltb _ _ l) in
-      record {
+      let fits : 0 + length (linesOf (m .steps) s run) ≤ length buf = omega (arith, m .lines .place, m .within) in
+      let same = puts-length (m .lines) in
+      rw (e) (record {
         refusal = cc none;
-        steps = p .steps;
-        onward = λ k h. p .onward k (omega arith);
-        stopped =
-            ⊎-elim (λ e. inl e) (λ f. inr (omega (arith, leb-false at (length buf - longestLine) f)))
-            (halts (now .ended) _ t);
-        stands = cc (p .stands);
-        written = cc (p .written);
-        later = cc (p .later);
-        same = cc (p .same);
-        within = omega (arith, p .same, p .within);
-        part = cc (length-take-le at out (omega (arith, p .same, p .within)));
-      }
+        steps = m .steps;
+        onward = λ k h. let g = m .onward k h in record { going = g .going; enough = omega (arith, g .enough) };
+        stopped = stop;
+        stands = m .stands;
+        written = puts-take (m .lines) fits;
+        later = puts-drop (m .lines) fits;
+        same = same;
+        within = omega (arith, same, m .within);
+        part = sym (length-take-le n out (omega (arith, same, m .within)));
+      })
 
   -- no step is made
   none-made : (n : ℕ) → n ≡ fillRefusal run (length buf) → (run .ended ≡ true) ⊎ (length buf < longestLine)

@@ -5,7 +5,7 @@ use mathlib.Core.List.{List, _++_}
 use Prim.Native.Nat.{ℕ, suc, _+_, _<_, _≤_}
 use native.Mathlib.Omega.{arith}
 use lib.ListN.{length, take}
-use Rattle.playback.specs.Run.{startOfRun, runAfter, linesOf, stepsToEnd, replayOf}
+use Rattle.playback.specs.Run.{startOfRun, runAfter, linesOf, quartersAsked, stepsToEnd, replayOf}
 use Rattle.playback.specs.Filling.{longestLine, Fills}
 use Rattle.playback.specs.Repeated.{Repeated, none, more, RepeatedCallsReplay}
 use Rattle.playback.specs.declared.run.Run.{Run}
@@ -45,11 +45,11 @@ module _ (s : List ℕ) where
 
 -- what calls from the start come to
 module _ (s : List ℕ) {n : ℕ} {ws : List ℕ} {end : Run} (m : Made s n startOfRun ws end) where
-  ended-by : (b : Bool) → end .ended ≡ b → length s < n → end .ended ≡ true
+  ended-by : (b : Bool) → end .ended ≡ b → length s + quartersAsked s < n → end .ended ≡ true
   ended-by true t h = t
   ended-by false t h = ap (λ (r : Run). r .ended) (m .stands) ∙ start-ends s (m .steps) (omega (arith, m .enough t))
 
-  whole : end .ended ≡ true → replayOf s ≡ record { output = ws; clock = end .clock }
+  whole : end .ended ≡ true → replayOf s ≡ record { output = ws; clock = end .clock; summary = end .summary }
   unfolding replayOf
   whole t =
       let e = same-end s (stepsToEnd s) (m .steps) startOfRun (start-ends s (stepsToEnd s) (omega arith)) (ap (λ (r : Run). r .ended) (sym (m .stands)) ∙ t) in

@@ -1,21 +1,24 @@
 -- Steps of a run: what each kind of step does, steps one after the other, and that every run ends.
 use mathlib.Core.Path.{_≡_, refl, sym, ap}
-use mathlib.Core.Bool.{Bool, true, false, cond}
+use mathlib.Core.Bool.{Bool, true, false, cond, _&&_}
 use mathlib.Core.List.{List, [], _++_, append-assoc, append-nil}
 use Prim.Native.Nat.{ℕ, zero, suc, _+_, _-_, _<_, _≤_}
 use native.Mathlib.Omega.{arith}
 use lib.Dec.{leb, ltb}
 use lib.ListN.{length}
 use borrow.Author.Tests.{le-leb, lt-leb, lt-ltb, le-ltb, leb-true, leb-false, ltb-true, ltb-false}
-use Rattle.history.specs.Event.{Found, found, refused, eventAt}
+use Rattle.integers.proofs.Ranges.{and-true}
+use Rattle.history.specs.Event.{Found, found, refused, eventAt, asksSummary}
 use Rattle.history.specs.Properties.{Past}
 use Rattle.history.proofs.Extent.{event-past}
-use Rattle.playback.specs.Lines.{logLine}
-use Rattle.playback.specs.Run.{longestHistory, startOfRun, endOf, stepAt, step, runAfter, linesOf, stepsToEnd}
+use Rattle.summary.specs.Summary.{quarters}
+use Rattle.playback.specs.Lines.{logLine, summaryLine}
+use Rattle.playback.specs.Run.{longestHistory, startOfRun, endOf, pastQuarter, stepAt, stepAtEnd, step}
+use Rattle.playback.specs.Run.{runAfter, linesOf, quartersAsked, stepsToEnd}
 use Rattle.playback.specs.declared.run.Run.{Run}
 
 module _ (s : List ℕ) where
-  step-ended : (r : Run) → r .ended ≡ true → step s r ≡ record { run = r; line = [] }
+  pub step-ended : (r : Run) → r .ended ≡ true → step s r ≡ record { run = r; line = [] }
   unfolding step
   step-ended r t = simp t
 
@@ -25,9 +28,15 @@ module _ (s : List ℕ) where
     step-long h = simp (going, lt-ltb _ _ h)
 
     module _ (fits : length s ≤ longestHistory) where
-      pub step-end : length s ≤ r .place → step s r ≡ record { run = endOf r; line = [] }
-      unfolding step
-      step-end h = simp (going, le-ltb _ _ fits, le-leb _ _ h)
+      module _ (over : length s ≤ r .place) where
+        pub step-end : (asksSummary s && ltb (r .quarter) quarters) ≡ false → step s r ≡ record { run = endOf r; line = [] }
+        unfolding step stepAtEnd
+        step-end t = simp (going, le-ltb _ _ fits, le-leb _ _ over, t)
+
+        pub step-quarter : (asksSummary s && ltb (r .quarter) quarters) ≡ true
+            → step s r ≡ record { run = pastQuarter r; line = summaryLine (r .summary) (r .quarter) }
+        unfolding step stepAtEnd
+        step-quarter t = simp (going, le-ltb _ _ fits, le-leb _ _ over, t)
 
       pub step-found : r .place < length s → {x : Found} → eventAt s (r .place) ≡ x → step s r ≡ stepAt r x
       unfolding step
@@ -85,9 +94,9 @@ module _ (s : List ℕ) where
 
   -- ---- every run ends
 
-  -- what is left to run: the bytes, and one for the end
+  -- what is left to run: the bytes, the quarter-hours that are asked for, and one for the end
   unfoldable pub left : Run → ℕ
-  left r = cond (r .ended) 0 (suc (length s - r .place))
+  left r = cond (r .ended) 0 (suc ((length s - r .place) + (quartersAsked s - r .quarter)))
 
   -- with every step of a run that has not ended less is left
   by-found : (r : Run) → r .ended ≡ false → length s ≤ longestHistory → r .place < length s → (x : Found) → eventAt s (r .place) ≡ x
@@ -98,9 +107,16 @@ module _ (s : List ℕ) where
       simp going (omega arith)
   by-found r going fits within (refused n) i = simp going (omega arith)
 
-  by-place : (r : Run) → r .ended ≡ false → length s ≤ longestHistory → (b : Bool) → leb (length s) (r .place) ≡ b → left (step s r .run) < left r
+  by-quarter : (r : Run) → r .ended ≡ false → length s ≤ longestHistory → length s ≤ r .place
+      → (b : Bool) → (asksSummary s && ltb (r .quarter) quarters) ≡ b → left (step s r .run) < left r
   unfolding left
-  by-place r going fits true t = rw (step-end r going fits (leb-true _ _ t)) (simp going (omega arith))
+  by-quarter r going fits over true t =
+      let u = and-true (asksSummary s) (ltb (r .quarter) quarters) t in
+      rw (step-quarter r going fits over t) (simp (going, u .0) (omega (arith, ltb-true (r .quarter) quarters (u .1))))
+  by-quarter r going fits over false t = rw (step-end r going fits over t) (simp going (omega arith))
+
+  by-place : (r : Run) → r .ended ≡ false → length s ≤ longestHistory → (b : Bool) → leb (length s) (r .place) ≡ b → left (step s r .run) < left r
+  by-place r going fits true t = by-quarter r going fits (leb-true _ _ t) _ refl
   by-place r going fits false t =
       let within = leb-false _ _ t in
       rw (step-found r going fits within refl) (by-found r going fits within (eventAt s (r .place)) refl)

@@ -18,14 +18,15 @@ use Rattle.bounds.specs.Singly.{singleTicks, asEvents}
 use Rattle.bounds.specs.Demand.{Demand3}
 use Rattle.history.specs.Event.{Found, found, refused, eventAt}
 use Rattle.history.specs.declared.Event.{Event}
-use Rattle.history.specs.declared.Event.the-variants.{Ticks, Call}
+use Rattle.history.specs.declared.Event.the-variants.{Ticks, Summary, Call}
 use Rattle.playback.specs.Lines.{printLine}
 use Rattle.playback.specs.Run.{longestHistory, Played, startOfRun, step, runAfter, stepsToEnd, replayOf}
 
 -- The calls of an event: "`0 n` up to n single ticks". Where one is refused, those after it are refused too
--- and change nothing.
+-- and change nothing. To ask for the summary is none.
 abbrev pub callsOfEvent : Event → List call.Event
 callsOfEvent (Ticks n) = asEvents (singleTicks n)
+callsOfEvent Summary = []
 callsOfEvent (Call e) = single e ∷ []
 
 -- the calls of what stands at a place, and then those of the rest; there are none in undecodable bytes, nor

@@ -2,9 +2,11 @@
 use mathlib.Core.Bool.{cond}
 use mathlib.Core.List.{List, [], _∷_, _++_}
 use Prim.Native.Nat.{ℕ, zero, suc, _/_}
-use lib.Dec.{ltb}
+use lib.Dec.{ltb, eqb}
+use lib.ListN.{getD}
 use Rattle.state.specs.declared.state.Clock.{Clock}
 use Rattle.label.specs.Label.{digit, clockLabel}
+use Rattle.summary.specs.declared.cells.Summary.{Summary}
 
 abbrev pub space : ℕ
 space = 0x20
@@ -36,3 +38,13 @@ logLine n p = (0x6C ∷ 0x6F ∷ 0x67 ∷ space ∷ decimal n) ++ (space ∷ 0x6
 -- "A print is label, space, six-digit microseconds, space, status, newline."
 unfoldable pub printLine : Clock → List ℕ
 printLine c = clockLabel c ++ (space ∷ six (c .micros .0)) ++ (space ∷ decimal (c .status)) ++ (newline ∷ [])
+
+-- Document 02, Req 08: "one line `QQ N M` .., QQ two digits": the quarter-hour, how many offsets were accepted in
+-- it, and the largest size among them (us)
+unfoldable pub quarterLine : ℕ → ℕ → ℕ → List ℕ
+quarterLine q n m =
+    (digit (q / 10) ∷ digit q ∷ space ∷ decimal n) ++ (space ∷ decimal m) ++ (newline ∷ [])
+
+-- "for each quarter-hour with N above 0"
+unfoldable pub summaryLine : Summary → ℕ → List ℕ
+summaryLine m q = cond (eqb (getD (m .counts) q 0) 0) [] (quarterLine q (getD (m .counts) q 0) (getD (m .largest) q 0))

@@ -2,9 +2,9 @@
 use mathlib.Core.Path.{_≡_}
 use mathlib.Core.Bool.{true}
 use mathlib.Core.List.{List, [], _++_}
-use Prim.Native.Nat.{ℕ, zero, suc, _≤_, _<_}
+use Prim.Native.Nat.{ℕ, zero, suc, _+_, _≤_, _<_}
 use lib.ListN.{length, take}
-use Rattle.playback.specs.Run.{startOfRun, replayOf}
+use Rattle.playback.specs.Run.{startOfRun, quartersAsked, replayOf}
 use Rattle.playback.specs.Filling.{longestLine, Fills}
 use Rattle.playback.specs.declared.run.Run.{Run}
 use Rattle.playback.specs.declared.run.Filling.{Filling}
@@ -18,11 +18,12 @@ pub data Repeated (s : List ℕ) : ℕ → Run → List ℕ → Run → Type 0 w
 
 -- n calls wrote ws and left a run over s at `end`
 pub record Replays (s : List ℕ) (n : ℕ) (ws : List ℕ) (end : Run) : Type 0 where
-  -- it has ended after one call more than the history has bytes, if not before
-  pub ends : length s < n → end .ended ≡ true
-  -- and then all that was written is the output of the history, and its clock is the one that the history
-  -- leaves
-  pub whole : end .ended ≡ true → replayOf s ≡ record { output = ws; clock = end .clock }
+  -- it has ended after one call more than the history has bytes, and one for each quarter-hour where it asks for
+  -- the summary, if not before
+  pub ends : length s + quartersAsked s < n → end .ended ≡ true
+  -- and then all that was written is the output of the history, and its clock and summary are those that the
+  -- history leaves
+  pub whole : end .ended ≡ true → replayOf s ≡ record { output = ws; clock = end .clock; summary = end .summary }
 
 -- repeating the call ends, and gives the replay of the history
 abbrev pub RepeatedCallsReplay : Type 0

@@ -15,6 +15,7 @@ use Rattle.event.specs.declared.event.Event.the-variants.{Call as single, Catch
 use Rattle.event.specs.declared.event.Stepped.{Stepped}
 use Rattle.bounds.specs.Calls.{Answers}
 use Rattle.bounds.specs.WrongClocks.{idles}
+use Rattle.summary.specs.Summary.{emptySummary}
 use Rattle.playback.specs.Lines.{printLine}
 use Rattle.playback.specs.Run.{stepsToEnd, replayOf}
 use Rattle.playback.specs.Calls.{callsOfFirst, clockAt, Replayer, replayer, joined}
@@ -39,6 +40,7 @@ replayedBy answers =
       played = λ s. record {
         output = joined (stepsToEnd s) (λ k. printLine (clockAt answers k s));
         clock = clockAt answers (stepsToEnd s) s;
+        summary = replayOf s .summary;
       };
     }
 
@@ -48,7 +50,7 @@ runsNothing =
     record {
       after = λ k s. freshClock kind256;
       line = λ k s. [];
-      played = λ s. record { output = []; clock = freshClock kind256 };
+      played = λ s. record { output = []; clock = freshClock kind256; summary = emptySummary };
     }
 
 -- in the end it hands back the clock that it began with
@@ -57,7 +59,7 @@ handsBackFresh =
     record {
       after = replayer .after;
       line = replayer .line;
-      played = λ s. record { output = replayOf s .output; clock = freshClock kind256 };
+      played = λ s. record { output = replayOf s .output; clock = freshClock kind256; summary = replayOf s .summary };
     }
 
 -- until then its run has the clock that it began with
@@ -73,6 +75,7 @@ printsFresh =
       played = λ s. record {
         output = joined (stepsToEnd s) (λ k. printLine (freshClock kind256));
         clock = replayOf s .clock;
+        summary = replayOf s .summary;
       };
     }
 
@@ -82,7 +85,7 @@ keepsLines =
     record {
       after = replayer .after;
       line = replayer .line;
-      played = λ s. record { output = []; clock = replayOf s .clock };
+      played = λ s. record { output = []; clock = replayOf s .clock; summary = replayOf s .summary };
     }
 
 -- the calls of the first event, and none after it

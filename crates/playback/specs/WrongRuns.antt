@@ -7,8 +7,13 @@ use Prim.Native.Nat.{ℕ, _<_}
 use lib.ListN.{replicate}
 use Rattle.state.specs.Device.{kind256, kind1024}
 use Rattle.state.specs.State.{freshClock}
+use Rattle.state.specs.declared.state.Clock.{Clock}
 use Rattle.playback.specs.Lines.{printLine}
-use Rattle.playback.specs.Run.{startOfRun, endOf}
+use Rattle.event.specs.declared.event.Call.the-variants.{Reading}
+use Rattle.history.specs.declared.Event.the-variants.{Call}
+use Rattle.summary.specs.Summary.{emptySummary, withOffset}
+use Rattle.summary.specs.declared.cells.Summary.{Summary}
+use Rattle.playback.specs.Run.{startOfRun, endOf, past}
 use Rattle.playback.specs.Filling.{Fills}
 use Rattle.playback.specs.Repeated.{Replays}
 use Rattle.playback.specs.declared.run.Run.{Run}
@@ -24,10 +29,14 @@ itsLine = printLine (freshClock kind256)
 
 -- where its run stands after the print, and where it has ended
 abbrev pub afterPrint : Run
-afterPrint = record { clock = freshClock kind256; place = 1; ended = false }
+afterPrint = past startOfRun (Call Reading) 1
 
 abbrev pub atEnd : Run
 atEnd = endOf afterPrint
+
+-- a run that has ended there with another clock or another summary
+abbrev pub left : Clock → Summary → Run
+left c m = record { clock = c; place = 1; ended = true; quarter = 0; summary = m }
 
 -- a lent buffer of n bytes
 abbrev pub blank : ℕ → List ℕ
@@ -66,5 +75,6 @@ pub record WrongRepeats : Type 0 where
   -- nothing was written
   pub silent : Replays onePrint 2 [] atEnd → ⊥
   -- the clock is none that the history leaves
-  pub elsewhere : Replays onePrint 2 itsLine (record { clock = freshClock kind1024; place = 1; ended = true })
-      → ⊥
+  pub elsewhere : Replays onePrint 2 itsLine (left (freshClock kind1024) emptySummary) → ⊥
+  -- the summary is none that the history leaves
+  pub counted : Replays onePrint 2 itsLine (left (freshClock kind256) (withOffset 0 0 emptySummary)) → ⊥

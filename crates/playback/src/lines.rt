@@ -9,7 +9,7 @@ ghost use Rattle.label.specs.Label.{digit as Label·digit};
 ghost use Rattle.playback.specs.Lines.{decimal, logLine, printLine};
 ghost use Rattle.playback.specs.Run.{longestHistory};
 ghost use Rattle.playback.specs.Filling.{longestLine};
-ghost use Rattle.playback.specs.Inner.{Puts, refusalLine};
+ghost use Rattle.playback.specs.Inner.{Puts, refusalLine, lineOfCell};
 use clock::Clock;
 
 // The length of a label, in bytes.
@@ -101,14 +101,17 @@ pub(crate) fn put_print(out: &mut [u8], at: usize, c: Clock) -> usize
     put(out, at + LABEL, &rest)
 }
 
-// `QQ N M`; nothing where N is 0
+// `QQ N M`, a quarter-hour of the summary; nothing where N is 0
 pub(crate) fn put_quarter(
     out: &mut [u8],
     at: usize,
     quarter: u32,
     count: u16,
     largest: u32,
-) -> usize {
+) -> usize
+    requires { ⌜ at + longestLine ≤ length (now out) ⌝ }
+    ensures { λ r. ⌜ Puts (lineOfCell quarter count largest) (now (out .entry)) at (now (out .exit)) r ⌝ }
+{
     if count == 0 {
         return at;
     }

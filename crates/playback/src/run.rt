@@ -1,12 +1,13 @@
 // A run over a history, from a fresh clock, in calls that each fill a lent buffer with whole lines.
 ghost use mathlib.Core.Path.{_≡_};
-ghost use mathlib.Core.Bool.{true, false};
+ghost use mathlib.Core.Bool.{false};
 ghost use Prim.Native.Nat.{_+_, _≤_};
 ghost use lib.ListN.{length};
 ghost use Rattle.history.specs.declared.Event.the-variants.{Call};
-ghost use Rattle.playback.specs.Run.{startOfRun};
+ghost use Rattle.playback.specs.Run.{longestHistory, startOfRun};
 ghost use Rattle.playback.specs.Filling.{longestLine, runLimits, Fills};
-ghost use Rattle.playback.specs.Inner.{isReading, RunsEvent, endedAt, noEvent, Steps};
+ghost use Rattle.playback.specs.Inner.{isReading, RunsEvent, CountsEvent, AtEvent, Advances, RunsEvents, goesOn};
+ghost use Rattle.playback.specs.Inner.{PutsQuarters, listsOn, filledWith};
 use crate::lines::put_log;
 use crate::lines::put_print;
 use crate::lines::put_quarter;
@@ -49,13 +50,13 @@ pub fn run_limits() -> RunLimits
     }
 }
 
-// Where a run stands: its clock; the place of the next event; the next quarter-hour whose line is printed, where
-// the history asks for the summary; whether the run has ended; and the summary of the events so far.
+// Where a run stands: its clock; the place of the next event; whether it has ended; the next quarter-hour whose
+// line is printed, where the history asks for the summary; and the summary of the events so far.
 pub struct Run {
     pub clock: Clock,
     pub place: usize,
-    pub quarter: usize,
     pub ended: bool,
+    pub quarter: usize,
     pub summary: Summary,
 }
 
@@ -68,9 +69,9 @@ pub fn start() -> Run
     Run {
         clock: clock,
         place: 0,
-        summary: summary,
-        quarter: 0,
         ended: false,
+        quarter: 0,
+        summary: summary,
     }
 }
 
@@ -91,14 +92,11 @@ struct Done {
     at: usize,
 }
 
-fn run_call(
-    c: Clock,
-    call: event::Call,
-    out: &mut [u8],
-    at: usize,
-    counts: &mut [u16; QUARTERS],
-    largest: &mut [u32; QUARTERS],
-) -> Done {
+fn run_call(c: Clock, call: event::Call, out: &mut [u8], at: usize, counts: &mut [u16; QUARTERS], largest: &mut [u32; QUARTERS]) -> Done
+    requires { ⌜ at + longestLine ≤ length (now out) ⌝ }
+    ensures { λ r. ⌜ RunsEvent c (Call call) (now (out .entry)) at (now (out .exit)) r ⌝ }
+    ensures { λ _. ⌜ CountsEvent c (Call call) (now (counts .entry)) (now (largest .entry)) (now (counts .exit)) (now (largest .exit)) ⌝ }
+{
     let answer = step_in_place(c, event::Event::Call(call), counts, largest);
     let clock = answer.clock;
     let refusal = answer.refusal;
@@ -116,14 +114,11 @@ fn run_call(
     }
 }
 
-fn run_event(
-    c: Clock,
-    e: Event,
-    out: &mut [u8],
-    at: usize,
-    counts: &mut [u16; QUARTERS],
-    largest: &mut [u32; QUARTERS],
-) -> Done {
+fn run_event(c: Clock, e: Event, out: &mut [u8], at: usize, counts: &mut [u16; QUARTERS], largest: &mut [u32; QUARTERS]) -> Done
+    requires { ⌜ at + longestLine ≤ length (now out) ⌝ }
+    ensures { λ r. ⌜ RunsEvent c e (now (out .entry)) at (now (out .exit)) r ⌝ }
+    ensures { λ _. ⌜ CountsEvent c e (now (counts .entry)) (now (largest .entry)) (now (counts .exit)) (now (largest .exit)) ⌝ }
+{
     match e {
         Event::Ticks(n) => {
             let o = run_ticks(c, n);
@@ -139,27 +134,24 @@ fn run_event(
     }
 }
 
-// Where the events of a run stand.
+// How far a run has come with its events; `ended` by bytes that hold none.
 struct Walk {
     clock: Clock,
     place: usize,
     ended: bool,
 }
 
+// The run after some steps, and the place after what they wrote.
 struct Step {
     walk: Walk,
     at: usize,
 }
 
-// Runs what stands at the run's place.
-fn advance(
-    bytes: &[u8],
-    walk: Walk,
-    out: &mut [u8],
-    at: usize,
-    counts: &mut [u16; QUARTERS],
-    largest: &mut [u32; QUARTERS],
-) -> Step {
+// Runs what stands at the run's place, before the end of the bytes.
+fn advance(bytes: &[u8], walk: Walk, out: &mut [u8], at: usize, counts: &mut [u16; QUARTERS], largest: &mut [u32; QUARTERS]) -> Step
+    requires { ⌜ (at + longestLine ≤ length (now out)) × AtEvent (now bytes) walk ⌝ }
+    ensures { λ r. ⌜ Advances (now (bytes .entry)) walk (now (counts .entry)) (now (largest .entry)) (now (out .entry)) at (now (counts .exit)) (now (largest .exit)) (now (out .exit)) r ⌝ }
+{
     let c = walk.clock;
     let place = walk.place;
     let entry = history::read(bytes, place);
@@ -192,14 +184,12 @@ fn advance(
     }
 }
 
-fn run_events(
-    bytes: &[u8],
-    start: Walk,
-    out: &mut [u8],
-    last: usize,
-    counts: &mut [u16; QUARTERS],
-    largest: &mut [u32; QUARTERS],
-) -> Step {
+// Runs events until the bytes end, or hold none, or the buffer has no room for one more line.
+fn run_events(bytes: &[u8], start: Walk, out: &mut [u8], last: usize, counts: &mut [u16; QUARTERS], largest: &mut [u32; QUARTERS]) -> Step
+    requires { ⌜ (last + longestLine ≡ length (now out)) × (start .ended ≡ false) × (length (now bytes) ≤ longestHistory) ⌝ }
+    ensures { λ r. ⌜ RunsEvents (now (bytes .entry)) start (now (counts .entry)) (now (largest .entry)) (now (out .entry)) (now (counts .exit)) (now (largest .exit)) (now (out .exit)) r ⌝ }
+    ensures { λ r. ⌜ goesOn (now (bytes .entry)) (r .walk) (r .at) last ≡ false ⌝ }
+{
     let n = bytes.len();
     let mut walk = start;
     let mut at = 0;
@@ -212,19 +202,18 @@ fn run_events(
     Step { walk: walk, at: at }
 }
 
+// The next quarter-hour, and the place after the lines of those before it.
 struct Listed {
     quarter: usize,
     at: usize,
 }
 
-fn put_quarters(
-    counts: &[u16; QUARTERS],
-    largest: &[u32; QUARTERS],
-    first: usize,
-    out: &mut [u8],
-    start: usize,
-    last: usize,
-) -> Listed {
+// Writes the lines of a summary from a quarter-hour on, as far as there is room for one more line.
+fn put_quarters(counts: &[u16; QUARTERS], largest: &[u32; QUARTERS], first: usize, out: &mut [u8], start: usize, last: usize) -> Listed
+    requires { ⌜ (last + longestLine ≡ length (now out)) × (start ≤ last) ⌝ }
+    ensures { λ r. ⌜ PutsQuarters (now (counts .entry)) (now (largest .entry)) first (now (out .entry)) start (now (out .exit)) r ⌝ }
+    ensures { λ r. ⌜ listsOn r last ≡ false ⌝ }
+{
     let mut quarter = first;
     let mut at = start;
     while (quarter < QUARTERS) & (at <= last) {
@@ -247,31 +236,55 @@ pub struct Filling {
     pub length: usize,
 }
 
-fn filled(
-    clock: Clock,
-    place: usize,
-    counts: [u16; QUARTERS],
-    largest: [u32; QUARTERS],
-    quarter: usize,
-    ended: bool,
-    length: usize,
-) -> Filling {
+fn filled(walk: Walk, quarter: usize, ended: bool, counts: [u16; QUARTERS], largest: [u32; QUARTERS], length: usize) -> Filling
+    ensures { λ r. ⌜ r ≡ filledWith walk quarter ended counts largest length ⌝ }
+{
+    let clock = walk.clock;
     let summary = Summary {
         counts: counts,
         largest: largest,
     };
     let run = Run {
         clock: clock,
-        place: place,
-        summary: summary,
-        quarter: quarter,
+        place: walk.place,
         ended: ended,
+        quarter: quarter,
+        summary: summary,
     };
     Filling {
         refusal: 0,
         run: run,
         length: length,
     }
+}
+
+// Goes on with a run that has not ended, over a history that is not too long, with room for a line: with its
+// events, and at the end of the bytes with the summary, where it is asked for.
+fn go_on(bytes: &[u8], run: Run, out: &mut [u8]) -> Filling
+    requires { ⌜ (longestLine ≤ length (now out)) × (run .ended ≡ false) × (length (now bytes) ≤ longestHistory) ⌝ }
+    ensures { λ r. ⌜ Fills (now (bytes .entry)) run (now (out .entry)) (now (out .exit)) r ⌝ }
+{
+    let last = out.len() - LONGEST_LINE;
+    let clock = run.clock;
+    let summary = run.summary;
+    let mut counts = summary.counts;
+    let mut largest = summary.largest;
+    let start = Walk {
+        clock: clock,
+        place: run.place,
+        ended: false,
+    };
+    let s = run_events(bytes, start, out, last, &mut counts, &mut largest);
+    let walk = s.walk;
+    if walk.ended | (walk.place < bytes.len()) | (last < s.at) {
+        return filled(walk, run.quarter, walk.ended, counts, largest, s.at);
+    }
+    if !asks_summary(bytes) {
+        return filled(walk, run.quarter, true, counts, largest, s.at);
+    }
+    let l = put_quarters(&counts, &largest, run.quarter, out, s.at, last);
+    let ended = !(l.quarter < QUARTERS) & (l.at <= last);
+    filled(walk, l.quarter, ended, counts, largest, l.at)
 }
 
 // Goes on with a run until it has ended or the buffer has no room for one more line. Later bytes of the
@@ -286,61 +299,21 @@ pub fn fill(bytes: &[u8], run: Run, out: &mut [u8]) -> Filling
             length: 0,
         };
     }
-    let room = out.len();
-    if room < LONGEST_LINE {
+    if out.len() < LONGEST_LINE {
         return Filling {
             refusal: REFUSED_ROOM,
             run: run,
             length: 0,
         };
     }
-    let last = room - LONGEST_LINE;
-    let clock = run.clock;
-    let m = run.summary;
-    let mut counts = m.counts;
-    let mut largest = m.largest;
     if LONGEST_HISTORY < bytes.len() {
         let length = put_log(out, 0, REFUSED_BEYOND, LONGEST_HISTORY as u32);
-        return filled(clock, run.place, counts, largest, run.quarter, true, length);
+        let ended = Run { ended: true, ..run };
+        return Filling {
+            refusal: 0,
+            run: ended,
+            length: length,
+        };
     }
-    let walk = Walk {
-        clock: clock,
-        place: run.place,
-        ended: false,
-    };
-    let s = run_events(bytes, walk, out, last, &mut counts, &mut largest);
-    let walked = s.walk;
-    let clock = walked.clock;
-    if walked.ended | (walked.place < bytes.len()) | (last < s.at) {
-        return filled(
-            clock,
-            walked.place,
-            counts,
-            largest,
-            run.quarter,
-            walked.ended,
-            s.at,
-        );
-    }
-    if !asks_summary(bytes) {
-        return filled(
-            clock,
-            walked.place,
-            counts,
-            largest,
-            run.quarter,
-            true,
-            s.at,
-        );
-    }
-    let l = put_quarters(&counts, &largest, run.quarter, out, s.at, last);
-    filled(
-        clock,
-        walked.place,
-        counts,
-        largest,
-        l.quarter,
-        !(l.quarter < QUARTERS) & (l.at <= last),
-        l.at,
-    )
+    go_on(bytes, run, out)
 }
