@@ -1,5 +1,5 @@
 -- `summary::counting::count_call`: an accepted request with an offset adds it, and nothing else does.
-use mathlib.Core.Path.{_≡_, refl, sym, _∙_, ap}
+use mathlib.Core.Path.{_≡_, sym, _∙_, ap}
 use mathlib.Core.Bool.{true, false}
 use Prim.Native.Nat.{_/_, _%_}
 use native.Mathlib.Omega.{arith}
@@ -25,11 +25,11 @@ module _ (c : Clock) (r : Request) (z : answerOf c (call.Request r) .refusal ≡
   offset-within : selectsOffset r ≡ true → within greatestOffset (r .offset .0) ≡ true
   offset-within s = by (requestCase c r)
     where
-    by : RequestCase c r → within greatestOffset (r .offset .0) ≡ true
-    by (done a e) =
-        let p = a .offset s in
-        parts-within greatestOffset greatestOffset (r .offset .0) (p .0) (p .1)
-    by (refused n e h) = absurd (omega (arith, z, ap (λ (o : Outcome). o .refusal) e))
+      by : RequestCase c r → within greatestOffset (r .offset .0) ≡ true
+      by (done a e) =
+          let p = a .offset s in
+          parts-within greatestOffset greatestOffset (r .offset .0) (p .0) (p .1)
+      by (refused n e h) = absurd (omega (arith, z, ap (λ (o : Outcome). o .refusal) e))
 
   takes : takesOffset c r ≡ selectsOffset r
   takes = simp (eq-eqb (answerOf c (call.Request r) .refusal) 0 z)
