@@ -1,5 +1,5 @@
 -- `summary::counting::count_call`: an accepted request with an offset adds it, and nothing else does.
-use mathlib.Core.Path.{_≡_, refl, sym, _∙_, ap}
+use mathlib.Core.Path.{_≡_, sym, _∙_, ap}
 use mathlib.Core.Bool.{true, false}
 use Prim.Native.Nat.{_/_, _%_}
 use native.Mathlib.Omega.{arith}

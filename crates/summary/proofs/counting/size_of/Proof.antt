@@ -1,11 +1,9 @@
 -- `summary::counting::size_of`: an offset that may be asked for is far from the ends of 32 bits.
-use mathlib.Core.Path.{_≡_, refl, sym, _∙_, ap}
-use mathlib.Core.Bool.{true, false}
-use Prim.Native.Nat.{_+_, _≤_, _<_, _^_}
+use mathlib.Core.Path.{_≡_}
+use mathlib.Core.Bool.{true}
+use Prim.Native.Nat.{_≤_}
 use native.Mathlib.Omega.{arith}
-use lib.Dec.{T}
 use lib.IntN.{ℤ, pos, natAbs, _-ℤ_}
-use lib.Signed.{ltZ, nonNeg}
 use mir.Facts.{toZ-ofZ}
 use mir.Syntax.{w32, w64}
 use mir.Val.{SFits, Fits}
@@ -36,7 +34,9 @@ module _ (z : ℤ) (h : within greatestOffset z ≡ true) where
   size-fits = omega (arith, abs-parts z, small, one-part z)
 
 sub-result : tie.Need-sub-result
-sub-result c = let a = c .before .before .before .before .before in rw (toZ-ofZ (fits (a .args .o .0) (a .pre))) (turned-fits (a .args .o .0) (a .pre))
+sub-result c =
+    let a = c .before .before .before .before .before in
+    rw (toZ-ofZ (fits (a .args .o .0) (a .pre))) (turned-fits (a .args .o .0) (a .pre))
 
 cast-result : tie.Need-cast-result
 cast-result c =
@@ -44,8 +44,10 @@ cast-result c =
     let z = a .args .o .0 in
     let f = toZ-ofZ (fits z (a .pre)) in
     let b = lt-parts z (pos 0) (rw (f) at (c .before .before .if1 .taken)) in
-    rw (f, toZ-ofZ (turned-fits z (a .pre)))
-    (nonNeg-parts (pos 0 -ℤ z) (omega (arith, turned z (a .pre), b, one-part z)), rw (turned-size z (a .pre)) (size-fits z (a .pre)))
+    rw (f, toZ-ofZ (turned-fits z (a .pre))) (
+      nonNeg-parts (pos 0 -ℤ z) (omega (arith, turned z (a .pre), b, one-part z)),
+      rw (turned-size z (a .pre)) (size-fits z (a .pre)),
+    )
 
 returns : tie.Need-returns
 returns c =
