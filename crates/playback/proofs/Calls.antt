@@ -32,7 +32,7 @@ use Rattle.playback.specs.Lines.{printLine}
 use Rattle.summary.specs.Summary.{quarters, emptySummary}
 use Rattle.summary.specs.Afresh.{carriedBy, carried}
 use Rattle.summary.specs.declared.cells.Summary as summary
-use Rattle.summary.proofs.Carried.{carried-append, ticks-carried}
+use Rattle.summary.proofs.Carrying.{carried-append, ticks-carried}
 use Rattle.playback.specs.Event.{outcomeOf, lineOf, summaryAfter}
 use Rattle.playback.specs.Run.{Advanced, longestHistory, startOfRun, endOf, past, step, runAfter, linesOf}
 use Rattle.playback.specs.Run.{stepsToEnd, replayOf}
@@ -82,7 +82,7 @@ event-after c (Call e) = refl
 -- the summary that is carried along them
 event-carried : (c : Clock) (e : Event) (m : summary.Summary) → carried c (callsOfEvent e) m ≡ summaryAfter c e m
 unfolding carriedBy summaryAfter
-event-carried c (Ticks n) m = ticks-carried n c m
+event-carried c (Ticks n) m = ticks-carried c n m
 event-carried c Summary m = refl
 event-carried c (Call e) m = refl
 

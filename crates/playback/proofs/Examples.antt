@@ -12,19 +12,19 @@ use Rattle.number.specs.Sequence.{then}
 use Rattle.number.specs.Mapping.{unmapped}
 use Rattle.label.specs.Label.{labelOf}
 use Rattle.clock.specs.Ticks.{ranOf, ticksOf}
-use Rattle.history.specs.Event.{fieldAt, ticksAt, requestAt, argumentsAt, eventAt}
+use Rattle.history.specs.Event.{fieldAt, ticksAt, requestAt, otherAt, argumentsAt, eventAt}
 use Rattle.playback.specs.Lines.{decimalFrom, decimal, refusedLine, logLine, printLine}
-use Rattle.playback.specs.Event.{outcomeOf, printedBy, printed, lineOf}
-use Rattle.playback.specs.Run.{step, runAfter, linesOf, replayOf}
+use Rattle.playback.specs.Event.{outcomeOf, printedBy, printed, lineOf, summaryAfter}
+use Rattle.playback.specs.Run.{stepAtEnd, step, runAfter, linesOf, replayOf}
 use Rattle.playback.specs.Examples.{Examples, outputOf, WrongOutputs}
 use Rattle.playback.proofs.Apart.{length-apart}
 
 pub examples : Examples outputOf
 unfolding deviceOf dateOf inRange rolledOver unitIn ticked tickRefusal tickOf ranOf ticksOf
     readingRefusal toldOf requestRefusal requestOf labelOf
-    leadingMore valueOf judged numberAt then unmapped fieldAt ticksAt requestAt argumentsAt eventAt
-    decimalFrom decimal refusedLine logLine printLine outcomeOf printedBy printed lineOf
-    step runAfter linesOf replayOf
+    leadingMore valueOf judged numberAt then unmapped fieldAt ticksAt requestAt otherAt argumentsAt eventAt
+    decimalFrom decimal refusedLine logLine printLine outcomeOf printedBy printed lineOf summaryAfter
+    stepAtEnd step runAfter linesOf replayOf
 examples =
     record {
       documented = refl;

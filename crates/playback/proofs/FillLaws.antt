@@ -42,8 +42,8 @@ module _ (s : List ℕ) where
         within = omega (arith, x .line .place, x .small);
       }
     where
-    first : (k : ℕ) → k ≡ 0 → Going s run (length buf) at k
-    first k e = rw (e) (record { going = going; enough = omega arith })
+      first : (k : ℕ) → k ≡ 0 → Going s run (length buf) at k
+      first k e = rw (e) (record { going = going; enough = omega arith })
 
   -- some steps, and then others
   module _ {run mid now : Run} {buf buf₁ buf₂ : List ℕ} {at p q : ℕ} (a : Made s run buf at buf₁ mid p) (b : Made s mid buf₁ p buf₂ now q) where

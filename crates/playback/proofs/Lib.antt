@@ -3,6 +3,7 @@ pub mod Buffers
 pub mod LineLaws
 pub mod RunLaws
 pub mod FillLaws
+pub mod GoingOn
 pub mod OneFill
 pub mod Apart
 pub mod Examples

@@ -6,7 +6,7 @@ use mathlib.Core.Logic.{⊎-elim}
 use Prim.Native.Nat.{ℕ, zero, suc}
 use native.Mathlib.Omega.{arith}
 use lib.Dec.{eqb}
-use lib.ListN.{length}
+use lib.ListN.{length, getD}
 use Rattle.calendar.specs.Calendar.{dateOf}
 use Rattle.state.specs.Device.{deviceOf}
 use Rattle.state.specs.State.{inRange}
@@ -14,10 +14,11 @@ use Rattle.clock.specs.Reading.{readingRefusal, toldOf}
 use Rattle.number.specs.Reading.{leadingMore, valueOf, judged, numberAt}
 use Rattle.number.specs.Sequence.{then}
 use Rattle.label.specs.Label.{labelOf}
-use Rattle.history.specs.Event.{argumentsAt, eventAt}
+use Rattle.history.specs.Event.{otherAt, argumentsAt, eventAt}
+use Rattle.summary.specs.Summary.{withOffset}
 use Rattle.playback.specs.Lines.{decimalFrom, decimal, printLine}
-use Rattle.playback.specs.Event.{outcomeOf, printedBy, printed, lineOf}
-use Rattle.playback.specs.Run.{Played, startOfRun, step, runAfter, linesOf, replayOf}
+use Rattle.playback.specs.Event.{outcomeOf, printedBy, printed, lineOf, summaryAfter}
+use Rattle.playback.specs.Run.{Played, startOfRun, stepAtEnd, step, runAfter, linesOf, replayOf}
 use Rattle.playback.specs.Filling.{Fills}
 use Rattle.playback.specs.WrongRuns.{onePrint, atEnd, blank, answer, WrongFills, WrongRepeats}
 use Rattle.playback.specs.declared.run.Run.{Run}
@@ -36,14 +37,14 @@ place-apart e h = not-same e (ap (λ (r : Filling). r .run .place) h)
 by-silent : (f : Fills onePrint startOfRun (blank 60) (blank 60) (answer 0 atEnd 0)) (k : ℕ)
     → f .steps ≡ k → ⊥
 unfolding deviceOf dateOf inRange readingRefusal toldOf leadingMore valueOf judged numberAt then
-    argumentsAt eventAt labelOf decimalFrom decimal printLine outcomeOf printedBy printed lineOf step runAfter
+    otherAt argumentsAt eventAt labelOf decimalFrom decimal printLine outcomeOf printedBy printed lineOf summaryAfter stepAtEnd step runAfter
     linesOf
 by-silent f zero e = ended-apart refl refl (rw e at (f .stands))
 by-silent f (suc k) e = byte-apart 0 refl (rw e at (f .written))
 
 pub wrong-fills : WrongFills
 unfolding deviceOf dateOf inRange readingRefusal toldOf leadingMore valueOf judged numberAt then
-    argumentsAt eventAt labelOf decimalFrom decimal printLine outcomeOf printedBy printed lineOf step runAfter
+    otherAt argumentsAt eventAt labelOf decimalFrom decimal printLine outcomeOf printedBy printed lineOf summaryAfter stepAtEnd step runAfter
     linesOf
 wrong-fills =
     record {
@@ -65,13 +66,17 @@ output-apart e h = length-apart e (ap (λ (p : Played). p .output) h)
 kind-apart : {a b : Played} → eqb (a .clock .kind) (b .clock .kind) ≡ false → a ≡ b → ⊥
 kind-apart e h = not-same e (ap (λ (p : Played). p .clock .kind) h)
 
+counts-apart : {a b : Played} → eqb (getD (a .summary .counts) 0 0) (getD (b .summary .counts) 0 0) ≡ false → a ≡ b → ⊥
+counts-apart e h = not-same e (ap (λ (p : Played). getD (p .summary .counts) 0 0) h)
+
 pub wrong-repeats : WrongRepeats
 unfolding deviceOf dateOf inRange readingRefusal toldOf leadingMore valueOf judged numberAt then
-    argumentsAt eventAt labelOf decimalFrom decimal printLine outcomeOf printedBy printed lineOf step runAfter
-    linesOf replayOf
+    otherAt argumentsAt eventAt labelOf decimalFrom decimal printLine outcomeOf printedBy printed lineOf summaryAfter stepAtEnd step runAfter
+    linesOf replayOf withOffset
 wrong-repeats =
     record {
       endless = λ r. true≢false (cc (r .ends (omega arith)));
       silent = λ r. output-apart refl (r .whole refl);
       elsewhere = λ r. kind-apart refl (r .whole refl);
+      counted = λ r. counts-apart refl (r .whole refl);
     }

@@ -96,7 +96,7 @@ RunsEvents s w counts largest buf counts′ largest′ buf′ r =
 
 -- whether the events of s go on, where there is room for a line up to the place `last`
 abbrev pub goesOn : List ℕ → Walk → (at last : ℕ) → Bool
-goesOn s w at last = not (w .ended) && ltb (w .place) (length s) && leb at last
+goesOn s w at last = (not (w .ended) && ltb (w .place) (length s)) && leb at last
 
 -- a run that has come to the end of the bytes
 abbrev pub listing : Clock → ℕ → ℕ → (counts largest : List ℕ) → Run

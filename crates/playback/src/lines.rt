@@ -111,6 +111,7 @@ pub(crate) fn put_quarter(
 ) -> usize
     requires { ⌜ at + longestLine ≤ length (now out) ⌝ }
     ensures { λ r. ⌜ Puts (lineOfCell quarter count largest) (now (out .entry)) at (now (out .exit)) r ⌝ }
+    ensures { λ _. ⌜ length (lineOfCell quarter count largest) ≤ longestLine ⌝ }
 {
     if count == 0 {
         return at;

@@ -92,7 +92,14 @@ struct Done {
     at: usize,
 }
 
-fn run_call(c: Clock, call: event::Call, out: &mut [u8], at: usize, counts: &mut [u16; QUARTERS], largest: &mut [u32; QUARTERS]) -> Done
+fn run_call(
+    c: Clock,
+    call: event::Call,
+    out: &mut [u8],
+    at: usize,
+    counts: &mut [u16; QUARTERS],
+    largest: &mut [u32; QUARTERS],
+) -> Done
     requires { ⌜ at + longestLine ≤ length (now out) ⌝ }
     ensures { λ r. ⌜ RunsEvent c (Call call) (now (out .entry)) at (now (out .exit)) r ⌝ }
     ensures { λ _. ⌜ CountsEvent c (Call call) (now (counts .entry)) (now (largest .entry)) (now (counts .exit)) (now (largest .exit)) ⌝ }
@@ -114,7 +121,14 @@ fn run_call(c: Clock, call: event::Call, out: &mut [u8], at: usize, counts: &mut
     }
 }
 
-fn run_event(c: Clock, e: Event, out: &mut [u8], at: usize, counts: &mut [u16; QUARTERS], largest: &mut [u32; QUARTERS]) -> Done
+fn run_event(
+    c: Clock,
+    e: Event,
+    out: &mut [u8],
+    at: usize,
+    counts: &mut [u16; QUARTERS],
+    largest: &mut [u32; QUARTERS],
+) -> Done
     requires { ⌜ at + longestLine ≤ length (now out) ⌝ }
     ensures { λ r. ⌜ RunsEvent c e (now (out .entry)) at (now (out .exit)) r ⌝ }
     ensures { λ _. ⌜ CountsEvent c e (now (counts .entry)) (now (largest .entry)) (now (counts .exit)) (now (largest .exit)) ⌝ }
@@ -148,7 +162,14 @@ struct Step {
 }
 
 // Runs what stands at the run's place, before the end of the bytes.
-fn advance(bytes: &[u8], walk: Walk, out: &mut [u8], at: usize, counts: &mut [u16; QUARTERS], largest: &mut [u32; QUARTERS]) -> Step
+fn advance(
+    bytes: &[u8],
+    walk: Walk,
+    out: &mut [u8],
+    at: usize,
+    counts: &mut [u16; QUARTERS],
+    largest: &mut [u32; QUARTERS],
+) -> Step
     requires { ⌜ (at + longestLine ≤ length (now out)) × AtEvent (now bytes) walk ⌝ }
     ensures { λ r. ⌜ Advances (now (bytes .entry)) walk (now (counts .entry)) (now (largest .entry)) (now (out .entry)) at (now (counts .exit)) (now (largest .exit)) (now (out .exit)) r ⌝ }
 {
@@ -185,7 +206,14 @@ fn advance(bytes: &[u8], walk: Walk, out: &mut [u8], at: usize, counts: &mut [u1
 }
 
 // Runs events until the bytes end, or hold none, or the buffer has no room for one more line.
-fn run_events(bytes: &[u8], start: Walk, out: &mut [u8], last: usize, counts: &mut [u16; QUARTERS], largest: &mut [u32; QUARTERS]) -> Step
+fn run_events(
+    bytes: &[u8],
+    start: Walk,
+    out: &mut [u8],
+    last: usize,
+    counts: &mut [u16; QUARTERS],
+    largest: &mut [u32; QUARTERS],
+) -> Step
     requires { ⌜ (last + longestLine ≡ length (now out)) × (start .ended ≡ false) × (length (now bytes) ≤ longestHistory) ⌝ }
     ensures { λ r. ⌜ RunsEvents (now (bytes .entry)) start (now (counts .entry)) (now (largest .entry)) (now (out .entry)) (now (counts .exit)) (now (largest .exit)) (now (out .exit)) r ⌝ }
     ensures { λ r. ⌜ goesOn (now (bytes .entry)) (r .walk) (r .at) last ≡ false ⌝ }
@@ -209,7 +237,14 @@ struct Listed {
 }
 
 // Writes the lines of a summary from a quarter-hour on, as far as there is room for one more line.
-fn put_quarters(counts: &[u16; QUARTERS], largest: &[u32; QUARTERS], first: usize, out: &mut [u8], start: usize, last: usize) -> Listed
+fn put_quarters(
+    counts: &[u16; QUARTERS],
+    largest: &[u32; QUARTERS],
+    first: usize,
+    out: &mut [u8],
+    start: usize,
+    last: usize,
+) -> Listed
     requires { ⌜ (last + longestLine ≡ length (now out)) × (start ≤ last) ⌝ }
     ensures { λ r. ⌜ PutsQuarters (now (counts .entry)) (now (largest .entry)) first (now (out .entry)) start (now (out .exit)) r ⌝ }
     ensures { λ r. ⌜ listsOn r last ≡ false ⌝ }
@@ -236,7 +271,14 @@ pub struct Filling {
     pub length: usize,
 }
 
-fn filled(walk: Walk, quarter: usize, ended: bool, counts: [u16; QUARTERS], largest: [u32; QUARTERS], length: usize) -> Filling
+fn filled(
+    walk: Walk,
+    quarter: usize,
+    ended: bool,
+    counts: [u16; QUARTERS],
+    largest: [u32; QUARTERS],
+    length: usize,
+) -> Filling
     ensures { λ r. ⌜ r ≡ filledWith walk quarter ended counts largest length ⌝ }
 {
     let clock = walk.clock;

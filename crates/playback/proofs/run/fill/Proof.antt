@@ -1,86 +1,64 @@
--- `playback::fill` meets its contract. The loop's invariant: the run stands after some steps from where it
--- stood at first, and the buffer has their lines. The measure is what is left to run.
-use mathlib.Core.Path.{_≡_}
-use mathlib.Core.Bool.{false, not}
-use Prim.Native.Nat.{_+_, _-_, _≤_}
+-- `playback::fill` meets its contract: a run that has ended, a buffer that is too short, a history that is too long;
+-- else it goes on.
+use mathlib.Core.Path.{refl}
+use mathlib.Core.Logic.{inl}
 use native.Mathlib.Omega.{arith}
-use lib.Dec.{leb}
-use lib.ListN.{length}
-use borrow.Author.Tests.{leb-true, not-true}
-use Rattle.integers.proofs.Ranges.{and-true}
-use Rattle.playback.specs.Filling.{longestLine}
-use Rattle.playback.proofs.RunLaws.{left}
-use Rattle.playback.proofs.FillLaws.{Put, put-none, put-step, less-left, put-all, put-ended, put-short}
+use borrow.Author.Needs.{needs}
+use Rattle.playback.specs.Run.{longestHistory}
+use Rattle.playback.proofs.LineLaws.{log-small}
+use Rattle.playback.proofs.RunLaws.{step-long}
+use Rattle.playback.proofs.FillLaws.{stepped, made-one, made-all, put-ended, put-short}
 use Rattle.playback.proofs.run.fill.Statement.{statement}
 use Rattle.playback.proofs.run.fill.Tie as tie
 
-abbrev Inv-loop : tie.InvT-loop
-Inv-loop bytes out₀ room last now₀ at₀ out now at = Put bytes now₀ out₀ out now at × (now₀ .ended ≡ false) × (longestLine ≤ length out₀)
-
-abbrev μ-loop : tie.MeasureT-loop
-μ-loop bytes out₀ room last now₀ at₀ out now at = left bytes now
-
-returns : tie.Need-returns Inv-loop μ-loop
+returns : tie.Need-returns
 returns c =
     let a = c .before .before .before .args in
     put-ended (a .bytes .now) (a .run) (a .out .now) (c .if1 .taken)
 
-returns-2 : tie.Need-returns-2 Inv-loop μ-loop
+returns-2 : tie.Need-returns-2
 returns-2 c =
     let a = c .before .before .before .before .args in
     put-short (a .bytes .now) (a .run) (a .out .now) (c .before .if1 .left) (c .if2 .taken)
 
-loop-holds : tie.Need-loop-holds Inv-loop μ-loop
-loop-holds c =
-    let a = c .before .before .before .before .args in
-    (put-none (a .bytes .now) (a .run) (a .out .now), c .before .if1 .left, c .if2 .left)
+cast-put-log : tie.Need-cast-put-log
+cast-put-log c = search needs
 
--- in the loop there is room for one more line, and the run has not ended
-room : (c : tie.Then3 Inv-loop μ-loop)
-    → let L = c .before .before .loop in
-    (L .at + longestLine ≤ length (c .before .before .before .before .before .before .before .args .out .now)) × (L .now .ended ≡ false)
-room c =
-    let L = c .before .before .loop in
-    let last = length (c .before .before .before .before .before .before .before .args .out .now) - longestLine in
-    let t = and-true (not (L .now .ended)) (leb (L .at) last) (c .if3 .taken) in
-    (omega (arith, L .inv .2, leb-true (L .at) last (t .1)), not-true (L .now .ended) (t .0))
+put-log-requires : tie.Need-put-log-requires
+put-log-requires c κs = search needs
 
-advance-requires : tie.Need-advance-requires Inv-loop μ-loop
-advance-requires c κs =
-    let r = room (c .before) in
-    (omega (arith, c .before .before .before .loop .inv .0 .same, r .0), r .1)
+same-length : tie.Need-same-length
+same-length c = search needs
 
-loop-less : tie.Need-loop-less Inv-loop μ-loop
-loop-less c =
-    let L = c .before .before .before .before .before .before .before .loop in
-    let r = room (c .before .before .before .before .before) in
-    less-left _ _ _ (r .1) (L .inv .0) (c .before .before .before .advance .ensures) (r .0)
-
-loop-again : tie.Need-loop-again Inv-loop μ-loop
-loop-again c =
-    let L = c .before .before .before .before .before .before .before .loop in
-    let r = room (c .before .before .before .before .before) in
-    (put-step _ _ _ (r .1) (L .inv .0) (c .before .before .before .advance .ensures) (r .0), L .inv .1, L .inv .2)
-
-same-length : tie.Need-same-length Inv-loop μ-loop
-same-length c = c .before .before .loop .inv .0 .same
-
-returns-3 : tie.Need-returns-3 Inv-loop μ-loop
+returns-3 : tie.Need-returns-3
 returns-3 c =
-    let L = c .before .before .loop in
-    put-all _ _ _ (L .inv .1) (L .inv .2) (L .inv .0) (c .if3 .left)
+    let p = c .before .before .before .before in
+    let t = p .before .before in
+    let going = t .before .before .if1 .left in
+    let enough = t .before .if2 .left in
+    let a = t .before .before .before .before .before .args in
+    let x = stepped (step-long (a .bytes .now) (a .run) going (t .if3 .taken)) refl (p .put-log .ensures) (log-small 13 longestHistory (omega arith) (omega arith)) in
+    made-all (a .bytes .now) (a .run) (a .out .now) going enough (made-one (a .bytes .now) going (omega (arith, enough)) x) (inl refl) refl
+
+go-on-requires : tie.Need-go-on-requires
+go-on-requires c κs = search needs
+
+same-length-2 : tie.Need-same-length-2
+same-length-2 c = search needs
+
+returns-4 : tie.Need-returns-4
+returns-4 c = search needs
 
 pub fill-spec : {M : Type 1} → statement M
 fill-spec =
     tie.close
     (tie.spec
-    Inv-loop
-    μ-loop
     returns
     returns-2
-    loop-holds
-    advance-requires
-    loop-less
-    loop-again
+    cast-put-log
+    put-log-requires
     same-length
-    returns-3)
+    returns-3
+    go-on-requires
+    same-length-2
+    returns-4)
