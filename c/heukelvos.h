@@ -84,7 +84,10 @@ enum heukelvos_mode {
 	HEUKELVOS_ADJ_TIMECONST = 32
 };
 
-/* The code of an event on a rig. */
+/*
+ * The code of an event on a rig. A history has codes of its own (docs/REFERENCE.md, "Histories"): there 0 is any
+ * number of ticks, and 4 asks for the summary.
+ */
 enum heukelvos_event_code {
 	HEUKELVOS_EVENT_TICK = 0,
 	HEUKELVOS_EVENT_SETTING = 1,

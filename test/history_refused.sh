@@ -36,6 +36,23 @@ refused_blocks() {
         refused_text 'repeat 32768 {\ntick 1\nprint\n}\n' 'line 4: more than 65537 bytes'
 }
 
+# The summary is asked for on the first line that holds anything, alone there.
+refused_summaries() {
+    why='summary is allowed as the first event alone, and in no repeat'
+    refused_text 'summary\nsummary\n' "line 2: $why: summary" &&
+        refused_text '# why\n\nsummary\ntick 1\n\n  summary # again\n' "line 6: $why:   summary # again" &&
+        refused_text 'raw 4\nsummary\n' "line 2: $why: summary" &&
+        refused_text 'repeat 1 summary\n' "line 1: $why: repeat 1 summary" &&
+        refused_text 'repeat 0 summary\n' "line 1: $why: repeat 0 summary" &&
+        refused_text 'repeat 1 {\nsummary\n}\n' "line 2: $why: summary" &&
+        refused_text 'summary\nrepeat 2 {\ntick 1\nsummary\n}\n' "line 4: $why: summary" &&
+        refused_text 'repeat 0 {\ntick 1\n}\nsummary\n' "line 4: $why: summary" &&
+        refused_text 'summary 4\n' 'line 1: summary stands alone: summary 4' &&
+        refused_text 'summary summary\n' 'line 1: summary stands alone: summary summary' &&
+        refused_text 'Summary\n' 'line 1: no such event: Summary' &&
+        refused_text 'SUMMARY\n' 'line 1: no such event: SUMMARY'
+}
+
 # Bytes that no line holds are shown as question marks; a long line is cut.
 refused_junk() {
     refused_text 'tick 1\000\n' 'line 1: tick wants a number from 0 to 34359738367: tick 1?' &&
@@ -86,6 +103,7 @@ longest_text() {
 tell_awks "an input without end" endless
 tell_awks "lines that are refused" refused_lines
 tell_awks "blocks that are refused" refused_blocks
+tell_awks "summaries that are refused" refused_summaries
 tell_awks "lines of junk" refused_junk
 tell_awks "the longest history" lengths
 tell_awks "the longest text" longest_text

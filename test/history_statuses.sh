@@ -16,7 +16,7 @@ helps() {
         status_of bin/history "$word" <&-
         [ "$status" -eq 0 ] && [ ! -s "$work/said" ] && grep -q '^Histories for the replay' "$work/out" &&
             grep -qF 'bin/history bytes <TEXT >BYTES' "$work/out" && grep -q '^Example' "$work/out" &&
-            grep -q '^Exit status: 0; 1 ' "$work/out" || shown "$word" || return 1
+            grep -q '^  summary  ' "$work/out" && grep -q '^Exit status: 0; 1 ' "$work/out" || shown "$word" || return 1
         if grep -q -e '^#' -e 'set -u' "$work/out"; then echo "more than the head of the file"; return 1; fi
     done
     status_of sh -c 'exec bin/history --help >/dev/full'

@@ -18,7 +18,7 @@ helps() {
         status_of bin/replay "$word" <&-
         [ "$status" -eq 0 ] && [ ! -s "$work/said" ] && grep -q '^Replays a history' "$work/out" &&
             grep -qF 'bin/replay <HISTORY >LINES' "$work/out" && grep -q '^Example' "$work/out" &&
-            grep -q '^Exit status: 0; 1 ' "$work/out" || shown "$word" || return 1
+            grep -q '^  QQ N M  ' "$work/out" && grep -q '^Exit status: 0; 1 ' "$work/out" || shown "$word" || return 1
         if grep -q -e '^#' -e 'set -u' "$work/out"; then echo "more than the head of the file"; return 1; fi
     done
     status_of sh -c 'exec bin/replay --help >/dev/full'

@@ -1,5 +1,5 @@
 # The snippets in Rattle are put into one crate, `mine`, over the crates that are proved, and are proved
-# there: some 10 s.
+# there: some 20 s.
 # shellcheck shell=sh
 . test/snippets.lib
 
@@ -13,7 +13,7 @@ snippets_crate() {
     mine=$work/rattle/crates/mine
     mkdir -p "$mine/src" "$work/rattle/target/log" || return 1
     cp crates.txt "$work/rattle"
-    echo 'mine: state clock request event label record' >>"$work/rattle/crates.txt"
+    echo 'mine: state clock request event label record summary' >>"$work/rattle/crates.txt"
     for crate in crates/*; do ln -s "$top/$crate" "$work/rattle/$crate"; done
     cp -R "$proved_in/target/stamp" "$work/rattle/target/stamp"
     ln -s "$proved_in/target/rlib" "$work/rattle/target/rlib"
@@ -39,7 +39,8 @@ snippets_proved() {
 
 if ! command -v rt >/dev/null; then
     pass_over "the snippets in Rattle" "rt is not on this machine"
-elif [ ! -d "$proved_in/target/rlib/record.rlib" ] || [ ! -d "$proved_in/target/rlib/label.rlib" ]; then
+elif [ ! -d "$proved_in/target/rlib/record.rlib" ] || [ ! -d "$proved_in/target/rlib/label.rlib" ] ||
+    [ ! -d "$proved_in/target/rlib/summary.rlib" ]; then
     pass_over "the snippets in Rattle" "the crates are not proved: run 'rt check'"
 else
     tell "the snippets in Rattle are proved" snippets_proved
