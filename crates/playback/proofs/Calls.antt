@@ -89,10 +89,10 @@ event-carried c (Call e) m = refl
 -- ---- the clock after the calls of the events so far
 
 -- the run has come no further: it has the same clock and summary, at the same place
-record Rests (now r : Run) : Type 0 where
-  clock : now .clock ≡ r .clock
-  place : now .place ≡ r .place
-  summary : now .summary ≡ r .summary
+pub record Rests (now r : Run) : Type 0 where
+  pub clock : now .clock ≡ r .clock
+  pub place : now .place ≡ r .place
+  pub summary : now .summary ≡ r .summary
 
 rests-then : {a b c : Run} → Rests a b → Rests b c → Rests a c
 rests-then x y = record { clock = x .clock ∙ y .clock; place = x .place ∙ y .place; summary = x .summary ∙ y .summary }
@@ -115,7 +115,7 @@ module _ (s : List ℕ) (fits : length s ≤ longestHistory) where
   step-rests r over true t = rests-as (ap (λ (a : Advanced). a .run) (step-ended s r t))
   step-rests r over false t = by-quarter r t over _ refl
 
-  rests : (k : ℕ) (r : Run) → length s ≤ r .place → Rests (runAfter k s r) r
+  pub rests : (k : ℕ) (r : Run) → length s ≤ r .place → Rests (runAfter k s r) r
   unfolding runAfter
   rests zero r over = rests-as refl
   rests (suc k) r over =
@@ -263,6 +263,9 @@ module _ (s : List ℕ) where
 
   clocks : (k : ℕ) → runAfter k s startOfRun .clock ≡ clockAfter kind256 (callsOfFirst k s)
   clocks k = first-of k .clock
+
+  pub summaries : (k : ℕ) → runAfter k s startOfRun .summary ≡ carried (freshClock kind256) (callsOfFirst k s) emptySummary
+  summaries k = first-of k .summary
 
   module _ (k : ℕ) (p : PrintAt s k) where
     abbrev now : Run

@@ -13,7 +13,8 @@ use Rattle.number.specs.Mapping.{unmapped}
 use Rattle.label.specs.Label.{labelOf}
 use Rattle.clock.specs.Ticks.{ranOf, ticksOf}
 use Rattle.history.specs.Event.{fieldAt, ticksAt, requestAt, otherAt, argumentsAt, eventAt}
-use Rattle.playback.specs.Lines.{decimalFrom, decimal, refusedLine, logLine, printLine}
+use Rattle.summary.specs.Summary.{withOffset}
+use Rattle.playback.specs.Lines.{decimalFrom, decimal, refusedLine, logLine, printLine, quarterLine, summaryLine}
 use Rattle.playback.specs.Event.{outcomeOf, printedBy, printed, lineOf, summaryAfter}
 use Rattle.playback.specs.Run.{stepAtEnd, step, runAfter, linesOf, replayOf}
 use Rattle.playback.specs.Examples.{Examples, outputOf, WrongOutputs}
@@ -23,7 +24,7 @@ pub examples : Examples outputOf
 unfolding deviceOf dateOf inRange rolledOver unitIn ticked tickRefusal tickOf ranOf ticksOf
     readingRefusal toldOf requestRefusal requestOf labelOf
     leadingMore valueOf judged numberAt then unmapped fieldAt ticksAt requestAt otherAt argumentsAt eventAt
-    decimalFrom decimal refusedLine logLine printLine outcomeOf printedBy printed lineOf summaryAfter
+    decimalFrom decimal refusedLine logLine printLine quarterLine summaryLine withOffset outcomeOf printedBy printed lineOf summaryAfter
     stepAtEnd step runAfter linesOf replayOf
 examples =
     record {
@@ -33,6 +34,9 @@ examples =
       longForm = refl;
       unknownCode = refl;
       highMode = refl;
+      summary = refl;
+      askedAgain = refl;
+      noOffset = refl;
     }
 
 pub wrong-outputs : WrongOutputs
@@ -44,4 +48,7 @@ wrong-outputs =
       longForm = λ e. length-apart refl (e .longForm);
       unknownCode = λ e. length-apart refl (e .unknownCode);
       highMode = λ e. length-apart refl (e .highMode);
+      summary = λ e. length-apart refl (e .summary);
+      askedAgain = λ e. length-apart refl (e .askedAgain);
+      noOffset = λ e. length-apart refl (e .noOffset);
     }

@@ -9,6 +9,8 @@ pub mod Apart
 pub mod Examples
 pub mod Repeated
 pub mod Calls
+pub mod Summaries
+pub mod WrongSummaries
 pub mod OnePrint
 pub mod WrongRuns
 pub mod WrongReplays

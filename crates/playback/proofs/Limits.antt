@@ -93,6 +93,9 @@ end-at-its-edge =
       two = two-calls;
       one = more {buf = blank 30} (omega arith) first-call none;
       replayed = repeated-calls-replay onePrint 2 itsLine atEnd two-calls;
+      summed = refl;
+      endedThen = refl;
+      goingThen = refl;
     }
 
 pub limits : Limits

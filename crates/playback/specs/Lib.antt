@@ -7,6 +7,8 @@ pub mod Filling
 pub mod Examples
 pub mod Repeated
 pub mod Calls
+pub mod Summaries
+pub mod WrongSummaries
 pub mod WrongRuns
 pub mod WrongReplays
 pub mod Limits

@@ -33,8 +33,12 @@ pub record HistoryAtItsEdge : Type 0 where
   pub ended : step (prints 65537) startOfRun .run .ended ≡ true
   pub none : callsOfFirst 1 (prints 65537) ≡ []
 
+-- a history that asks for the summary, of nothing
+abbrev pub asking : List ℕ
+asking = 0x04 ∷ []
+
 -- One more than the history has bytes: so many steps end the run of a print, and so many calls with room for
--- one line; one fewer do not.
+-- one line; one fewer do not. Where the summary is asked for, 96 more.
 pub record EndAtItsEdge : Type 0 where
   pub steps : stepsToEnd onePrint ≡ 2
   pub ended : runAfter 2 onePrint startOfRun .ended ≡ true
@@ -42,6 +46,9 @@ pub record EndAtItsEdge : Type 0 where
   pub two : Repeated onePrint 2 startOfRun itsLine atEnd
   pub replayed : Replays onePrint 2 itsLine atEnd
   pub one : Repeated onePrint 1 startOfRun itsLine afterPrint
+  pub summed : stepsToEnd asking ≡ 98
+  pub endedThen : runAfter 98 asking startOfRun .ended ≡ true
+  pub goingThen : runAfter 97 asking startOfRun .ended ≡ false
 
 pub record Limits : Type 0 where
   pub line : LineAtItsEdge
