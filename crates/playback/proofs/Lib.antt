@@ -10,7 +10,7 @@ pub mod Examples
 pub mod Repeated
 pub mod Calls
 pub mod Summaries
-pub mod WrongSummaries
+pub mod WrongKeepers
 pub mod OnePrint
 pub mod WrongRuns
 pub mod WrongReplays

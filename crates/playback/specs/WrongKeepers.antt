@@ -43,7 +43,7 @@ prints output =
 abbrev pub andLines : List ℕ → List ℕ
 andLines s = replayOf s .output ++ summaryLines (replayOf s .summary)
 
-pub record WrongSummaries : Type 0 where
+pub record WrongKeepers : Type 0 where
   pub counting : SummaryOfHistory countsNothing asked → ⊥
   pub forgetting : SummaryOfHistory (leaves (λ s. emptySummary)) asked → ⊥
   -- it prints nothing where the summary is asked for

@@ -17,7 +17,7 @@ use Rattle.playback.specs.Lines.{decimalFrom, decimal, logLine, quarterL
 use Rattle.playback.specs.Event.{outcomeOf, printedBy, printed, lineOf, summaryAfter}
 use Rattle.playback.specs.Run.{stepAtEnd, step, runAfter, linesOf, replayOf}
 use Rattle.playback.specs.Summaries.{linesFrom, EventsDone, Undecodable}
-use Rattle.playback.specs.WrongSummaries.{asked, unasked, damaged, WrongSummaries}
+use Rattle.playback.specs.WrongKeepers.{asked, unasked, damaged, WrongKeepers}
 use Rattle.playback.proofs.Apart.{not-same, length-apart}
 use Rattle.playback.proofs.Summaries.{summary-of-history}
 
@@ -40,11 +40,11 @@ damaged-there = record { fits = omega arith; going = refl; before = omega arith;
 count-apart : {a b : Summary} → eqb (getD (a .counts) 0 0) (getD (b .counts) 0 0) ≡ false → a ≡ b → ⊥
 count-apart e h = not-same e (ap (λ (m : Summary). getD (m .counts) 0 0) h)
 
-pub wrong-summaries : WrongSummaries
+pub wrong-keepers : WrongKeepers
 unfolding deviceOf inRange requestRefusal requestOf leadingMore valueOf judged numberAt then unmapped
     fieldAt requestAt otherAt argumentsAt eventAt withOffset decimalFrom decimal logLine quarterLine summaryLine
     outcomeOf printedBy printed lineOf summaryAfter stepAtEnd step runAfter linesOf linesFrom replayOf
-wrong-summaries =
+wrong-keepers =
     record {
       counting = λ x. count-apart refl (x .steps 2 ∙ sym (summary-of-history asked .steps 2));
       forgetting = λ x. count-apart refl (x .whole ∙ sym (summary-of-history asked .whole));
