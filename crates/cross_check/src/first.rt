@@ -10,7 +10,13 @@ use crate::devices::whole_micros;
 use crate::form::Number;
 use crate::form::ROW;
 use crate::many::Many;
+use crate::quarters::Cells;
+use crate::quarters::QUARTERS;
+use crate::quarters::Taken;
+use crate::quarters::afresh;
+use crate::replay::OUTPUT;
 use crate::replay::Replayed;
+use crate::replay::STEPS;
 use crate::replay::caught_up;
 use crate::rules::Answer;
 use crate::rules::State;
@@ -41,6 +47,7 @@ use playback::Run;
 use request::AskedFrequency;
 use request::AskedOffset;
 use request::Request;
+use summary::Summary;
 
 fn byte(n: u64) -> u8 {
     (n % 256) as u8
@@ -172,22 +179,21 @@ fn same_step(m: Many, code: u64, e: Stepped) -> bool {
     same & same_reading(shown(m.refusal, m.state, code), e.reading)
 }
 
-// The event of a row as a step of a list.
-fn same_stepped(m: Many, c: Clock, row: &[u64; ROW]) -> bool {
+// The event of a row, as one of a list.
+fn event_of(row: &[u64; ROW]) -> Event {
     let code = row[0];
     match code {
-        0 => same_step(m, code, event::step(c, Event::Call(Call::Tick))),
-        1 => {
-            let e = Event::Call(Call::Setting(row[1], AskedMicros(row[2])));
-            same_step(m, code, event::step(c, e))
-        }
-        2 => {
-            let e = Event::Call(Call::Request(request_of(row)));
-            same_step(m, code, event::step(c, e))
-        }
-        4 => same_step(m, code, event::step(c, Event::CatchUp(row[1], row[2] == 1))),
-        _ => same_step(m, code, event::step(c, Event::Call(Call::Reading))),
+        0 => Event::Call(Call::Tick),
+        1 => Event::Call(Call::Setting(row[1], AskedMicros(row[2]))),
+        2 => Event::Call(Call::Request(request_of(row))),
+        4 => Event::CatchUp(row[1], row[2] == 1),
+        _ => Event::Call(Call::Reading),
     }
+}
+
+// The event of a row as a step of a list.
+fn same_stepped(m: Many, c: Clock, row: &[u64; ROW]) -> bool {
+    same_step(m, row[0], event::step(c, event_of(row)))
 }
 
 // The clock's own judgement and reading, where the second has answered `a` to a reading.
@@ -220,7 +226,7 @@ fn same_limits() -> bool {
     let r = playback::run_limits();
     same = same & (r.history == 65536) & (r.line == 30) & (clock::MAX_CEILING == 65536);
     same = same & (l.interval == 1024) & (request::MIN_INTERVAL == 64);
-    same = same & (rig::most_clocks() == 8);
+    same = same & (rig::most_clocks() == 8) & (summary::QUARTERS == 96);
     same & (u.second == 1000000) & (u.day == 86400)
 }
 
@@ -375,10 +381,91 @@ pub(crate) fn same_record(bytes: [u8; 64], end: usize, a: Answer) -> bool {
     same_byte(a.refusal, r.refusal) & same_clock(a.state, r.clock)
 }
 
+// Whether a summary holds what was worked out afresh.
+fn same_summary(mine: Cells, m: Summary) -> bool {
+    let mut same = true;
+    let mut k: usize = 0;
+    while k < QUARTERS {
+        same = same & (mine.counts[k] == m.counts[k]) & (mine.largest[k] == m.largest[k]);
+        k += 1;
+    }
+    same
+}
+
+// The summary of what was worked out afresh.
+fn summary_of(mine: Cells) -> Summary {
+    let counts = mine.counts;
+    let largest = mine.largest;
+    Summary {
+        counts: counts,
+        largest: largest,
+    }
+}
+
+// The summaries that the first has carried along a list, by value and in place, and whether it answered the
+// events as the second did.
+pub(crate) struct Carried {
+    by_value: Summary,
+    in_place: Summary,
+    same: bool,
+}
+
+// Before the first event of a list.
+pub(crate) fn carried_from(t: Taken) -> Carried {
+    let m = summary_of(afresh(t));
+    Carried {
+        by_value: m,
+        in_place: m,
+        same: true,
+    }
+}
+
+// One event more, where the second has answered `m`.
+pub(crate) fn carried_past(from: Carried, s: State, row: &[u64; ROW], m: Many) -> Carried {
+    let c = clock_of(s);
+    let e = event_of(row);
+    let a = summary::step(c, e, from.by_value);
+    let lent = from.in_place;
+    let mut counts = lent.counts;
+    let mut largest = lent.largest;
+    let b = summary::step_in_place(c, e, &mut counts, &mut largest);
+    let same = same_step(m, row[0], a.stepped) & same_step(m, row[0], b);
+    let by_value = a.summary;
+    let in_place = Summary {
+        counts: counts,
+        largest: largest,
+    };
+    Carried {
+        by_value: by_value,
+        in_place: in_place,
+        same: from.same & same,
+    }
+}
+
+// After the last event of a list.
+pub(crate) fn same_carried(t: Taken, c: Carried) -> bool {
+    let mine = afresh(t);
+    c.same & same_summary(mine, c.by_value) & same_summary(mine, c.in_place)
+}
+
 // Where a run stands.
 fn same_run(mine: Replayed, run: Run) -> bool {
-    let same = (run.ended == mine.over) & (run.place == mine.place);
-    same & same_clock(mine.state, run.clock)
+    let mut same = (run.ended == mine.over) & (run.place == mine.place);
+    same = same & (run.quarter == mine.quarter) & same_clock(mine.state, run.clock);
+    same & same_summary(afresh(mine.taken), run.summary)
+}
+
+// The run that stands where the second does.
+fn run_at(mine: Replayed) -> Run {
+    let m = summary_of(afresh(mine.taken));
+    let c = clock_of(mine.state);
+    Run {
+        clock: c,
+        place: mine.place,
+        quarter: mine.quarter,
+        ended: mine.over,
+        summary: m,
+    }
 }
 
 pub(crate) fn same_begun(mine: Replayed) -> bool {
@@ -386,24 +473,26 @@ pub(crate) fn same_begun(mine: Replayed) -> bool {
 }
 
 // One call on a run, which took the second from `before` to where `mine` stands: refused with room for no
-// line, unless nothing is left to write; else it comes past an event or to the end.
+// line, unless nothing is left to write; else it comes past an event or a quarter-hour, or to the end, and
+// goes on as long as there is room for one more line.
 fn same_call(before: Replayed, mine: Replayed, room: usize, f: Filling) -> bool {
     let refusal = pick((room < 30) & !before.over, 14, 0);
-    let moved = (before.place < mine.place) | mine.over;
+    let moved = (before.place < mine.place) | (before.quarter < mine.quarter) | mine.over;
     let mut same = same_byte(refusal, f.refusal) & (moved == (refusal == 0));
     same = same & (f.length as u64 == minus(mine.size as u64, before.size as u64));
+    same = same & (mine.over | (room < f.length % 64 + 30));
     same & same_run(mine, f.run)
 }
 
 // Whether a lent buffer that held 9 begins with the `size` bytes of the output from `at` on, and holds 9
 // after them.
-fn same_part(part: &[u8; 64], out: &[u8; 2048], at: usize, size: usize) -> bool {
+fn same_part(part: &[u8; 64], out: &[u8; OUTPUT], at: usize, size: usize) -> bool {
     let mut same = true;
     let mut k: usize = 0;
     while k < 64 {
         let mut expected = 9;
         if k < size {
-            expected = out[(at % 2048 + k) % 2048];
+            expected = out[(at % OUTPUT + k) % OUTPUT];
         }
         same = same & (part[k] == expected);
         k += 1;
@@ -414,20 +503,25 @@ fn same_part(part: &[u8; 64], out: &[u8; 2048], at: usize, size: usize) -> bool 
 // A run over a history from where `from` stands, in calls that lend `room` bytes. After each call the second
 // goes on to the same place. Its history begins with `head`.
 pub(crate) fn same_replay(bytes: &[u8], head: [u8; 64], from: Replayed, room: usize) -> bool {
-    let mut out = [0u8; 2048];
+    let mut out = [0u8; OUTPUT];
     let mut mine = from;
+    let mut run = run_at(from);
     let mut same = true;
-    let mut left: u64 = 66;
+    let mut left: u64 = STEPS;
     while 0 < left {
         let mut part = [9u8; 64];
-        let run = Run {
-            clock: clock_of(mine.state),
-            place: mine.place,
-            ended: mine.over,
-        };
         let f = playback::fill(bytes, run, &mut part[..room % 65]);
+        let next = f.run;
+        run = next;
         let before = mine;
-        mine = caught_up(before, f.run.place, f.run.ended, &head, &mut out);
+        mine = caught_up(
+            before,
+            next.place,
+            next.quarter,
+            next.ended,
+            &head,
+            &mut out,
+        );
         same = same & same_call(before, mine, room, f);
         same = same & same_part(&part, &out, before.size, f.length);
         if mine.over {

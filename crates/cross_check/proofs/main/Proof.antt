@@ -5,10 +5,10 @@ use Rattle.cross_check.proofs.main.Statement.{statement}
 use Rattle.cross_check.proofs.main.Tie as tie
 
 abbrev Inv-loop : tie.InvT-loop
-Inv-loop t₀ k₀ t k = k ≤ 23
+Inv-loop t₀ k₀ t k = k ≤ 24
 
 abbrev μ-loop : tie.MeasureT-loop
-μ-loop t₀ k₀ t k = 23 - k
+μ-loop t₀ k₀ t k = 24 - k
 
 slice-aggregate-write-all : tie.Need-slice-aggregate-write-all Inv-loop μ-loop
 slice-aggregate-write-all c = search needs

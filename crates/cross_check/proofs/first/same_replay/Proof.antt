@@ -1,4 +1,4 @@
--- `cross_check::first::same_replay` ends: at most 66 turns; and the part that is lent is as long as it says.
+-- `cross_check::first::same_replay` ends: at most 164 turns; and the part that is lent is as long as it says.
 use Prim.Native.Nat.{_≤_}
 use native.Mathlib.Omega.{arith}
 use lib.ListN.{length-take}
@@ -7,16 +7,16 @@ use Rattle.cross_check.proofs.first.same_replay.Statement.{statement}
 use Rattle.cross_check.proofs.first.same_replay.Tie as tie
 
 abbrev Inv-loop : tie.InvT-loop
-Inv-loop bytes from room head out₀ mine₀ same₀ left₀ out mine same left = left ≤ 66
+Inv-loop bytes from room head out₀ mine₀ run₀ same₀ left₀ out mine run same left = left ≤ 164
 
 abbrev μ-loop : tie.MeasureT-loop
-μ-loop bytes from room head out₀ mine₀ same₀ left₀ out mine same left = left
+μ-loop bytes from room head out₀ mine₀ run₀ same₀ left₀ out mine run same left = left
+
+run-at-requires : tie.Need-run-at-requires Inv-loop μ-loop
+run-at-requires c κs = search needs
 
 loop-holds : tie.Need-loop-holds Inv-loop μ-loop
 loop-holds c = search needs
-
-clock-of-requires : tie.Need-clock-of-requires Inv-loop μ-loop
-clock-of-requires c κs = search needs
 
 array-borrow-prefix-part : tie.Need-array-borrow-prefix-part Inv-loop μ-loop
 array-borrow-prefix-part c = search needs
@@ -54,8 +54,8 @@ same-replay-spec =
     (tie.spec
     Inv-loop
     μ-loop
+    run-at-requires
     loop-holds
-    clock-of-requires
     array-borrow-prefix-part
     slice-aggregate-fill
     fill-requires

@@ -2,8 +2,36 @@
 use native.Mathlib.Omega.{arith}
 use lib.ListN.{length-take}
 use borrow.Author.Needs.{needs}
+use borrow.Author.Needs.{needs}
 use Rattle.cross_check.proofs.histories.long.Statement.{statement}
 use Rattle.cross_check.proofs.histories.long.Tie as tie
+
+add-fill : tie.Need-add-fill
+add-fill c = search needs
+
+cast-fill : tie.Need-cast-fill
+cast-fill c = search needs
+
+mul-code : tie.Need-mul-code
+mul-code c = search needs
+
+add-code : tie.Need-add-code
+add-code c = search needs
+
+cast-code : tie.Need-cast-code
+cast-code c = search needs
+
+array-write-bytes : tie.Need-array-write-bytes
+array-write-bytes c = search needs
+
+array-write-bytes-2 : tie.Need-array-write-bytes-2
+array-write-bytes-2 c = search needs
+
+array-write-head : tie.Need-array-write-head
+array-write-head c = search needs
+
+array-write-head-2 : tie.Need-array-write-head-2
+array-write-head-2 c = search needs
 
 add-end : tie.Need-add-end
 add-end c = search needs
@@ -42,6 +70,15 @@ pub long-spec : {M : Type 1} → statement M
 long-spec =
     tie.close
     (tie.spec
+    add-fill
+    cast-fill
+    mul-code
+    add-code
+    cast-code
+    array-write-bytes
+    array-write-bytes-2
+    array-write-head
+    array-write-head-2
     add-end
     fresh-requires
     begun-requires

@@ -1,14 +1,14 @@
--- `cross_check::replay::caught_up` ends: one turn for each event, and no more than 66.
+-- `cross_check::replay::caught_up` ends: one turn for each step, and no more than 164.
 use Prim.Native.Nat.{_≤_}
 use borrow.Author.Needs.{needs}
 use Rattle.cross_check.proofs.replay.caught_up.Statement.{statement}
 use Rattle.cross_check.proofs.replay.caught_up.Tie as tie
 
 abbrev Inv-loop : tie.InvT-loop
-Inv-loop place end bytes out₀ r₀ left₀ out r left = left ≤ 66
+Inv-loop place quarter end bytes out₀ r₀ left₀ out r left = left ≤ 164
 
 abbrev μ-loop : tie.MeasureT-loop
-μ-loop place end bytes out₀ r₀ left₀ out r left = left
+μ-loop place quarter end bytes out₀ r₀ left₀ out r left = left
 
 loop-holds : tie.Need-loop-holds Inv-loop μ-loop
 loop-holds c = search needs

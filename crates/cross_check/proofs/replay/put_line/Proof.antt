@@ -5,19 +5,22 @@ use Rattle.cross_check.proofs.replay.put_line.Statement.{statement}
 use Rattle.cross_check.proofs.replay.put_line.Tie as tie
 
 abbrev Inv-loop : tie.InvT-loop
-Inv-loop out₀ at line text next₀ k₀ out next k = k ≤ 32
+Inv-loop out₀ at line text next₀ leads₀ k₀ out next leads k = k ≤ 32
 
 abbrev μ-loop : tie.MeasureT-loop
-μ-loop out₀ at line text next₀ k₀ out next k = 32 - k
+μ-loop out₀ at line text next₀ leads₀ k₀ out next leads k = 32 - k
 
 loop-holds : tie.Need-loop-holds Inv-loop μ-loop
 loop-holds c = search needs
 
-add-if1 : tie.Need-add-if1 Inv-loop μ-loop
-add-if1 c = search needs
+array-read-b : tie.Need-array-read-b Inv-loop μ-loop
+array-read-b c = search needs
 
-array-read-out : tie.Need-array-read-out Inv-loop μ-loop
-array-read-out c = search needs
+add-zero : tie.Need-add-zero Inv-loop μ-loop
+add-zero c = search needs
+
+array-read-zero : tie.Need-array-read-zero Inv-loop μ-loop
+array-read-zero c = search needs
 
 element-write-out : tie.Need-element-write-out Inv-loop μ-loop
 element-write-out c = search needs
@@ -44,8 +47,9 @@ put-line-spec =
     Inv-loop
     μ-loop
     loop-holds
-    add-if1
-    array-read-out
+    array-read-b
+    add-zero
+    array-read-zero
     element-write-out
     add-next
     add-k
