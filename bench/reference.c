@@ -1,6 +1,7 @@
 /*
  * The operations of document 01 in plain C, for bench/run to hold the proved ones against: the same lines of input as crates/bench
  * ("tick 1000000"), the same checksums; with the argument `replay`, a history on standard input and the same lines as the program replay.
+ * `request-summed` is the operation of crates/bench_summary: a request that moves a summary.
  * The state is changed in place, as a C programmer would have it; every call judges its state and arguments as document 01 asks.
  *
  * Many ticks in one call are written run_judged, run_looped, and by closed form twice: run_closed and run_position. A build has the one
@@ -542,6 +543,34 @@ static int adjust(struct clock *c, const struct request *r)
 	return 0;
 }
 
+/* The summary: for each quarter-hour of the UTC day how many offsets were accepted, up to 65,535, and the largest size among them (us). */
+
+#define QUARTERS 96
+
+struct summary {
+	uint16_t counts[QUARTERS];
+	uint32_t largest[QUARTERS];
+};
+
+static void count_offset(struct summary *m, uint32_t seconds, int32_t offset)
+{
+	uint32_t quarter = seconds % 86400 / 900;
+	uint32_t size = offset < 0 ? -offset : offset;
+	if (m->counts[quarter] < UINT16_MAX)
+		m->counts[quarter]++;
+	if (m->largest[quarter] < size)
+		m->largest[quarter] = size;
+}
+
+/* A request leaves the seconds as they were. */
+static int adjust_summed(struct clock *c, const struct request *r, struct summary *m)
+{
+	int refusal = adjust(c, r);
+	if ((r->mode & OFFSET) && !refusal)
+		count_offset(m, c->seconds, r->offset);
+	return refusal;
+}
+
 /* Numbers. A writer gives the place after the number, or 0 where the buffer is too short. */
 
 static size_t number_size(uint32_t n)
@@ -870,6 +899,22 @@ static uint8_t *put_print(uint8_t *out, const struct clock *c)
 	return out + 30;
 }
 
+/* `QQ N M` for each quarter-hour with an offset. */
+static uint8_t *put_summary(uint8_t *out, const struct summary *m)
+{
+	for (int quarter = 0; quarter < QUARTERS; quarter++) {
+		if (m->counts[quarter] == 0)
+			continue;
+		memcpy(out, pairs + 2 * quarter, 2);
+		out[2] = ' ';
+		out = put_decimal(out + 3, m->counts[quarter]);
+		*out++ = ' ';
+		out = put_decimal(out, m->largest[quarter]);
+		*out++ = '\n';
+	}
+	return out;
+}
+
 static int read_request(const uint8_t *bytes, size_t len, size_t *at, struct request *r)
 {
 	uint64_t field[6] = { 0 };
@@ -891,13 +936,18 @@ static int read_request(const uint8_t *bytes, size_t len, size_t *at, struct req
 	return 0;
 }
 
-/* Runs a history into `out`, which has room for all of its lines, and gives how many bytes it wrote. */
+/*
+ * Runs a history into `out`, which has room for all of its lines, and gives how many bytes it wrote. Code 4 is an event at place 0 alone, of one
+ * byte: judged before the others, it costs them nothing.
+ */
 static size_t replay(const uint8_t *bytes, size_t len, uint8_t *out)
 {
 	struct clock c = fresh;
+	struct summary m = { 0 };
 	struct request r;
 	uint8_t *end = out;
-	size_t at = 0;
+	bool asked = len > 0 && bytes[0] == 4;
+	size_t at = asked;
 	if (len > 65536)
 		return put_log(out, 13, 65536) - out;
 	while (at < len) {
@@ -922,7 +972,7 @@ static size_t replay(const uint8_t *bytes, size_t len, uint8_t *out)
 			case 2:
 				undecodable = read_request(bytes, len, &at, &r);
 				if (!undecodable)
-					refusal = adjust(&c, &r);
+					refusal = adjust_summed(&c, &r, &m);
 				break;
 			case 3:
 				end = put_print(end, &c);
@@ -935,6 +985,8 @@ static size_t replay(const uint8_t *bytes, size_t len, uint8_t *out)
 		if (refusal)
 			end = put_refused(end, refusal);
 	}
+	if (asked)
+		end = put_summary(end, &m);
 	return end - out;
 }
 
@@ -1059,6 +1111,21 @@ static void go_on(struct clock *c)
 	c->interval = c->interval % 960 + 64;
 }
 
+/* The i-th request: every choice of fields in turn. */
+static void request_of(const uint64_t *values, uint64_t i, struct request *r)
+{
+	uint64_t k = i / 64;
+	*r = (struct request){
+		.mode = values[i % 64],
+		.offset = unmap(values[k % 64]),
+		.frequency = unmap(values[k / 2 % 64]),
+		.maxerror = values[k / 3 % 64],
+		.esterror = values[k / 4 % 64],
+		.status = values[k % 4],
+		.constant = values[k % 5],
+	};
+}
+
 static uint64_t request_some(struct clock *c, uint64_t count)
 {
 	uint64_t values[64], sum = 0;
@@ -1066,16 +1133,8 @@ static uint64_t request_some(struct clock *c, uint64_t count)
 	*c = begun(values, KIND_256);
 	go_on(c);
 	for (uint64_t i = 0; i < count; i++) {
-		uint64_t k = i / 64;
-		struct request r = {
-			.mode = values[i % 64],
-			.offset = unmap(values[k % 64]),
-			.frequency = unmap(values[k / 2 % 64]),
-			.maxerror = values[k / 3 % 64],
-			.esterror = values[k / 4 % 64],
-			.status = values[k % 4],
-			.constant = values[k % 5],
-		};
+		struct request r;
+		request_of(values, i, &r);
 		int refusal = adjust(c, &r);
 		sum = mix(mix(sum, refusal), c->status);
 		go_on(c);
@@ -1088,6 +1147,31 @@ static uint64_t requests(uint64_t count)
 	struct clock c;
 	uint64_t sum = request_some(&c, count);
 	return mix_clock(sum, &c);
+}
+
+static uint64_t mix_summary(uint64_t sum, const struct summary *m)
+{
+	for (int quarter = 0; quarter < QUARTERS; quarter++)
+		sum = mix(mix(sum, m->counts[quarter]), m->largest[quarter]);
+	return sum;
+}
+
+/* The same requests, with a summary that each of them moves. */
+static uint64_t summed_requests(uint64_t count)
+{
+	uint64_t values[64], sum = 0;
+	struct summary m = { 0 };
+	fill_numbers(values);
+	struct clock c = begun(values, KIND_256);
+	go_on(&c);
+	for (uint64_t i = 0; i < count; i++) {
+		struct request r;
+		request_of(values, i, &r);
+		int refusal = adjust_summed(&c, &r, &m);
+		sum = mix(mix(sum, refusal), c.status);
+		go_on(&c);
+	}
+	return mix_summary(mix_clock(sum, &c), &m);
 }
 
 #define STEP 2654435
@@ -1206,7 +1290,10 @@ static uint64_t reads(uint32_t least, uint64_t count)
 	return sum;
 }
 
-/* The replay program: a history from standard input, its lines to standard output. */
+/*
+ * The replay program: a history from standard input, its lines to standard output. A byte of a history prints 30 bytes at most; a quarter-hour's
+ * line has at most 16, and an offset, of three bytes or more, for which no other line is printed.
+ */
 static int replay_input(void)
 {
 	static uint8_t history[65537];
@@ -1265,6 +1352,7 @@ int main(int argc, char **argv)
 		{ "catch-up", greatest_256 },
 		{ "catch-up-1024", greatest_1024 },
 		{ "request", requests },
+		{ "request-summed", summed_requests },
 		{ "label-write", label_writes },
 		{ "label-read", label_reads },
 		{ "record-write", record_writes },
