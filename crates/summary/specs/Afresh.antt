@@ -1,5 +1,5 @@
--- The summary worked out afresh from a whole list of events, quarter-hour by quarter-hour. Document 02, Req 08:
--- "After any history it must equal the summary worked out afresh from that history."
+-- The summary worked out afresh from a whole list of events, quarter-hour by quarter-hour. Document 02,
+-- Req 08: "After any history it must equal the summary worked out afresh from that history."
 use mathlib.Core.Path.{_≡_}
 use mathlib.Core.Bool.{cond}
 use mathlib.Core.List.{List, [], _∷_, _++_}
@@ -63,7 +63,8 @@ afresh ts =
       largest = listOf (λ q. largestOf (sizesIn q ts)) 0 quarters;
     }
 
--- What moves a summary by an event on a clock: by the rules it is `afterEvent`, which `summary::step` promises.
+-- What moves a summary by an event on a clock: by the rules it is `afterEvent`, which `summary::step`
+-- promises.
 abbrev pub Moves : Type 0
 Moves = Clock → Event → Summary → Summary
 
