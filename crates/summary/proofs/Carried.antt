@@ -10,7 +10,7 @@ use lib.Seq.{ext-getD, getD-set-same, getD-set-other}
 use borrow.Author.Tests.{eqb-true, eqb-false}
 use Rattle.summary.specs.Summary.{quarters, quarterOf, greatestCount, emptySummary, summaryOf}
 use Rattle.summary.specs.Summary.{withOffset, afterEvent}
-use Rattle.summary.specs.Afresh.{Taken, takenAmong, sizesIn, largestOf, listOf, afresh, CarriedIsAfresh}
+use Rattle.summary.specs.Afresh.{Taken, sizesIn, largestOf, listOf, afresh, CarriedIsAfresh}
 use Rattle.summary.specs.Afresh.{countAfresh, largestAfresh}
 use Rattle.summary.specs.declared.cells.Summary.{Summary}
 use Rattle.summary.proofs.Carrying.{withAll, carried-with}
@@ -122,4 +122,4 @@ module _ (ts : List Taken) where
   all-afresh = with-along ts emptySummary ∙ rw (counts-from, largest-from)
 
 pub carried-is-afresh : CarriedIsAfresh afterEvent
-carried-is-afresh c events = carried-with c events emptySummary ∙ all-afresh (takenAmong c events)
+carried-is-afresh c events = carried-with _ _ emptySummary ∙ all-afresh _

@@ -33,4 +33,4 @@ carried-same c [] m = refl
 carried-same c (e ∷ es) m = rw (same c e m) (carried-same (stepOf c e .clock) es (afterEvent c e m))
 
 pub seconds-after : CarriedIsAfresh secondsAfter
-seconds-after c events = carried-same c events emptySummary ∙ carried-is-afresh c events
+seconds-after c events = carried-same _ _ emptySummary ∙ carried-is-afresh c events
