@@ -8,8 +8,10 @@ use lib.Dec.{eqb}
 use lib.ListN.{length, getD, set, replicate, length-set, length-replicate, getD-replicate}
 use lib.Seq.{ext-getD, getD-set-same, getD-set-other}
 use borrow.Author.Tests.{eqb-true, eqb-false}
-use Rattle.summary.specs.Summary.{quarters, quarterOf, greatestCount, emptySummary, summaryOf, withOffset, afterEvent}
-use Rattle.summary.specs.Afresh.{Taken, takenAmong, sizesIn, largestOf, listOf, afresh, CarriedIsAfresh}
+use Rattle.summary.specs.Summary.{quarters, quarterOf, greatestCount, emptySummary, summaryOf}
+use Rattle.summary.specs.Summary.{withOffset, afterEvent}
+use Rattle.summary.specs.Afresh.{Taken, sizesIn, largestOf, listOf, afresh, CarriedIsAfresh}
+use Rattle.summary.specs.Afresh.{countAfresh, largestAfresh}
 use Rattle.summary.specs.declared.cells.Summary.{Summary}
 use Rattle.summary.proofs.Carrying.{withAll, carried-with}
 
@@ -108,15 +110,16 @@ module _ (grown : ℕ → ℕ → ℕ) (ts : List Taken) (f : ℕ → ℕ) where
       long = along-length grown ts zeros ∙ length-replicate {A = ℕ} quarters 0
 
 module _ (ts : List Taken) where
-  counts-from : along counted ts (emptySummary .counts) ≡ listOf (λ q. min greatestCount (length (sizesIn q ts))) 0 quarters
-  counts-from = from-zeros counted ts _ (λ q. count-grown (sizesIn q ts) 0 (omega arith) ∙ omega arith)
+  counts-from : along counted ts (emptySummary .counts) ≡ listOf (countAfresh ts) 0 quarters
+  counts-from =
+      from-zeros counted ts (countAfresh ts) (λ q. count-grown (sizesIn q ts) 0 (omega arith) ∙ omega arith)
 
-  largest-from : along max ts (emptySummary .largest) ≡ listOf (λ q. largestOf (sizesIn q ts)) 0 quarters
-  largest-from = from-zeros max ts _ (λ q. largest-grown (sizesIn q ts) 0 ∙ omega arith)
+  largest-from : along max ts (emptySummary .largest) ≡ listOf (largestAfresh ts) 0 quarters
+  largest-from = from-zeros max ts (largestAfresh ts) (λ q. largest-grown (sizesIn q ts) 0 ∙ omega arith)
 
   all-afresh : withAll ts emptySummary ≡ afresh ts
   unfolding afresh
   all-afresh = with-along ts emptySummary ∙ rw (counts-from, largest-from)
 
 pub carried-is-afresh : CarriedIsAfresh afterEvent
-carried-is-afresh c events = carried-with c events emptySummary ∙ all-afresh (takenAmong c events)
+carried-is-afresh c events = carried-with _ _ emptySummary ∙ all-afresh _

@@ -1,5 +1,5 @@
--- The summary worked out afresh from a whole list of events, quarter-hour by quarter-hour. Document 02, Req 08:
--- "After any history it must equal the summary worked out afresh from that history."
+-- The summary worked out afresh from a whole list of events, quarter-hour by quarter-hour. Document 02,
+-- Req 08: "After any history it must equal the summary worked out afresh from that history."
 use mathlib.Core.Path.{_≡_}
 use mathlib.Core.Bool.{cond}
 use mathlib.Core.List.{List, [], _∷_, _++_}
@@ -54,16 +54,21 @@ unfoldable pub listOf : (ℕ → ℕ) → ℕ → ℕ → List ℕ
 listOf f k zero = []
 listOf f k (suc n) = f k ∷ listOf f (suc k) n
 
--- "for each, how many offsets were accepted and the largest absolute offset among them. .. Counts stop at
--- 65,535."
+-- "how many offsets were accepted" in a quarter-hour; "Counts stop at 65,535."
+abbrev pub countAfresh : List Taken → ℕ → ℕ
+countAfresh ts q = min greatestCount (length (sizesIn q ts))
+
+-- "the largest absolute offset among them" (us)
+abbrev pub largestAfresh : List Taken → ℕ → ℕ
+largestAfresh ts q = largestOf (sizesIn q ts)
+
+-- the summary, "for each" quarter-hour from 0 on
 unfoldable pub afresh : List Taken → Summary
 afresh ts =
-    record {
-      counts = listOf (λ q. min greatestCount (length (sizesIn q ts))) 0 quarters;
-      largest = listOf (λ q. largestOf (sizesIn q ts)) 0 quarters;
-    }
+    record { counts = listOf (countAfresh ts) 0 quarters; largest = listOf (largestAfresh ts) 0 quarters }
 
--- What moves a summary by an event on a clock: by the rules it is `afterEvent`, which `summary::step` promises.
+-- What moves a summary by an event on a clock: by the rules it is `afterEvent`, which `summary::step`
+-- promises.
 abbrev pub Moves : Type 0
 Moves = Clock → Event → Summary → Summary
 

@@ -26,8 +26,8 @@ quarters = 96
 abbrev pub secondsPerQuarter : ℕ
 secondsPerQuarter = 900
 
--- "the cell chosen by the clock's seconds": the quarter-hour of the UTC day that a second lies in. An inserted
--- second has the seconds of the one before it, the day's last.
+-- "the cell chosen by the clock's seconds": the quarter-hour of the UTC day that a second lies in. An
+-- inserted second has the seconds of the one before it, the day's last.
 abbrev pub quarterOf : ℕ → ℕ
 quarterOf seconds = seconds % secondsPerDay / secondsPerQuarter
 

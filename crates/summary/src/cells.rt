@@ -2,13 +2,12 @@
 ghost use mathlib.Core.Path.{_≡_};
 ghost use Prim.Native.Nat.{_<_, _+_, min, max};
 ghost use Rattle.summary.specs.Summary.{quarters, quarterOf, emptySummary, summaryOf, greatestCount, withOffset};
+use clock::SECONDS_PER_DAY;
 
 // The quarter-hours of a day.
 pub const QUARTERS: usize = 96;
 
-// The seconds of a day, and of a quarter-hour.
-const DAY: u32 = 86400;
-
+// The seconds of a quarter-hour.
 const QUARTER: u32 = 900;
 
 // Where a count stops.
@@ -37,7 +36,7 @@ pub fn empty() -> Summary
 fn quarter_of(seconds: u32) -> usize
     ensures { λ r. ⌜ (r ≡ quarterOf seconds) × (r < quarters) ⌝ }
 {
-    (seconds % DAY / QUARTER) as usize
+    (seconds % SECONDS_PER_DAY / QUARTER) as usize
 }
 
 fn one_more(n: u16) -> u16

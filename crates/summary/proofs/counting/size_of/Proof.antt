@@ -43,7 +43,7 @@ cast-result c =
     let a = c .before .before .before .before .before in
     let z = a .args .o .0 in
     let f = toZ-ofZ (fits z (a .pre)) in
-    let b = lt-parts z (pos 0) (rw (f) at (c .before .before .if1 .taken)) in
+    let b = lt-parts z _ (rw (f) at (c .before .before .if1 .taken)) in
     rw (f, toZ-ofZ (turned-fits z (a .pre))) (
       nonNeg-parts (pos 0 -ℤ z) (omega (arith, turned z (a .pre), b, one-part z)),
       rw (turned-size z (a .pre)) (size-fits z (a .pre)),
@@ -60,7 +60,7 @@ cast-result-2 c =
     let a = c .before .before .before .before .before in
     let z = a .args .o .0 in
     let f = toZ-ofZ (fits z (a .pre)) in
-    let b = ge-parts z (pos 0) (rw (f) at (c .before .before .if1 .left)) in
+    let b = ge-parts z _ (rw (f) at (c .before .before .if1 .left)) in
     rw (f) (nonNeg-parts z (omega (arith, b, one-part z)), size-fits z (a .pre))
 
 returns-2 : tie.Need-returns-2
