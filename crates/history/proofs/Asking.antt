@@ -1,6 +1,6 @@
 -- Code 4 at place 0 asks for the summary, and nothing else does.
 use mathlib.Core.Path.{_≡_, refl, ap}
-use mathlib.Core.Bool.{Bool, true, false, cond, _&&_}
+use mathlib.Core.Bool.{Bool, true, false, cond}
 use mathlib.Core.List.{List, [], _∷_}
 use Prim.Native.Nat.{ℕ, _<_}
 use native.Mathlib.Omega.{arith}
@@ -15,7 +15,7 @@ use Rattle.number.specs.Properties.{Extent}
 use Rattle.number.proofs.Extent.{extent}
 use Rattle.number.proofs.Steps.{first-last}
 use Rattle.number.proofs.WrittenRead.{one-form}
-use Rattle.history.specs.Event.{Found, found, refused, ticksAt, settingAt, requestAt, otherAt, argumentsAt, eventAt}
+use Rattle.history.specs.Event.{Found, found, refused, ticksAt, settingAt, requestAt, summaryAt, argumentsAt, eventAt}
 use Rattle.history.specs.Event.{isSummary, asksSummary}
 
 -- what stands at a place is not what asks for the summary
@@ -53,11 +53,11 @@ module _ (s : List ℕ) (p : ℕ) where
 
   -- the code 4 asks, and no other
   code-asks : (code : ℕ) → code ≡ 4 → isSummary (argumentsAt 0 code s p) ≡ true
-  unfolding argumentsAt otherAt
+  unfolding argumentsAt summaryAt
   code-asks code e = rw (e)
 
   other-code : (code : ℕ) → eqb code 4 ≡ false → Other (argumentsAt 0 code s p)
-  unfolding argumentsAt otherAt
+  unfolding argumentsAt summaryAt
   other-code code t =
       cond-other (eqb code 0) _ _ ticks-other
       (cond-other (eqb code 1) _ _ setting-other

@@ -1,6 +1,6 @@
 -- Every event that is read ends after its first byte, and no later than the bytes do.
 use mathlib.Core.Path.{_≡_, refl}
-use mathlib.Core.Bool.{Bool, true, false, cond, _&&_}
+use mathlib.Core.Bool.{Bool, true, false, cond}
 use mathlib.Core.List.{List, []}
 use Prim.Native.Nat.{ℕ, _%_, _<_, _≤_}
 use native.Mathlib.Omega.{arith}
@@ -16,7 +16,7 @@ use Rattle.event.specs.declared.event.Call.the-variants.{Reading}
 use Rattle.history.specs.declared.Event.{Event}
 use Rattle.history.specs.declared.Event.the-variants.{Call}
 use Rattle.history.specs.Properties.{Past, EndsPast, ShutOut}
-use Rattle.history.specs.Event.{Found, found, refused, fieldAt, ticksAt, settingAt, requestAt, otherAt, argumentsAt, eventAt}
+use Rattle.history.specs.Event.{Found, found, refused, fieldAt, ticksAt, settingAt, requestAt, summaryAt, argumentsAt, eventAt}
 
 module _ (s : List ℕ) (at : ℕ) where
   -- what is said of an event at `at`, of whatever it is
@@ -74,9 +74,9 @@ module _ (s : List ℕ) (at : ℕ) where
         (field-past (mode % 64) 1
         (number-past h e0) e1) e2) e3) e4) e5) e6)))))))
 
-    other-ends : (start code : ℕ) → Ends (otherAt start code p)
-    unfolding otherAt
-    other-ends start code = cond-ends (eqb code 4 && eqb start 0) _ _ h tt
+    summary-ends : (start : ℕ) → Ends (summaryAt start p)
+    unfolding summaryAt
+    summary-ends start = cond-ends (eqb start 0) _ _ h tt
 
     arguments-end : (start code : ℕ) → Ends (argumentsAt start code s p)
     unfolding argumentsAt
@@ -85,7 +85,8 @@ module _ (s : List ℕ) (at : ℕ) where
         (cond-ends (eqb code 1) _ _ setting-ends
         (cond-ends (eqb code 2) _ _ request-ends
         (cond-ends (eqb code 3) _ _ h
-        (other-ends start code))))
+        (cond-ends (eqb code 4) _ _ (summary-ends start)
+        tt))))
 
   event-ends : Ends (eventAt s at)
   unfolding eventAt

@@ -1,7 +1,7 @@
 -- The events of a history, at a place of any bytes. Document 01, "Replay program": "a history in the same
 -- number form .. `0 n` ..; `1 s u` setting; `2 mode` and the selected fields in order of mode bit, offset and
 -- frequency mapped ..; `3` print".
-use mathlib.Core.Bool.{Bool, true, false, cond, _&&_}
+use mathlib.Core.Bool.{Bool, true, false, cond}
 use mathlib.Core.List.{List}
 use Prim.Native.Nat.{ℕ, suc, _%_}
 use lib.Dec.{eqb}
@@ -85,19 +85,20 @@ fieldsAt mode bits s n0 =
 unfoldable pub requestAt : List ℕ → ℕ → Found
 requestAt s at = then refused (numberAt s at) (λ mode n0. fieldsAt mode (mode % suc greatestMode) s n0)
 
--- document 02, Req 08: "the new code 4, which is allowed only there (elsewhere 12)", as the first event, whose
--- first byte is at place 0; 12 "unknown .. event code" for any other
-unfoldable pub otherAt : ℕ → ℕ → ℕ → Found
-otherAt start code at = cond (eqb code 4 && eqb start 0) (found Summary at) (refused refusedField)
+-- document 02, Req 08: "the first history event is the new code 4, which is allowed only there (elsewhere 12)":
+-- the event whose first byte is at place 0. In a rig for C code 4 is another event.
+unfoldable pub summaryAt : ℕ → ℕ → Found
+summaryAt start at = cond (eqb start 0) (found Summary at) (refused refusedField)
 
--- the arguments that the code of an event brings; the first byte of the event is at `start`
+-- the arguments that the code of an event brings, whose first byte is at `start`; 12 "unknown .. event code"
 unfoldable pub argumentsAt : ℕ → ℕ → List ℕ → ℕ → Found
 argumentsAt start code s at =
     cond (eqb code 0) (ticksAt s at)
     (cond (eqb code 1) (settingAt s at)
     (cond (eqb code 2) (requestAt s at)
     (cond (eqb code 3) (found (Call Reading) at)
-    (otherAt start code at))))
+    (cond (eqb code 4) (summaryAt start at)
+    (refused refusedField)))))
 
 -- the event at place `at` of s; where s ends before the event does, 10 "bytes end inside a record or event"
 unfoldable pub eventAt : List ℕ → ℕ → Found

@@ -5,7 +5,7 @@ ghost use Prim.Native.Nat.{_%_, _<_};
 ghost use Rattle.number.specs.Reading.{told as Number·told};
 ghost use Rattle.number.specs.Inner.{refusedAs};
 ghost use Rattle.history.specs.declared.Event.the-variants.{Call};
-ghost use Rattle.history.specs.Event.{found, refused, told, offsetAsked, frequencyAsked, fieldAt, ticksAt, settingAt, requestAt, otherAt, eventAt, asksSummary};
+ghost use Rattle.history.specs.Event.{found, refused, told, offsetAsked, frequencyAsked, fieldAt, ticksAt, settingAt, requestAt, summaryAt, eventAt, asksSummary};
 use number::Decoded;
 use number::unmap;
 use request::ADJ_ESTERROR;
@@ -165,20 +165,11 @@ fn request_at(bytes: &[u8], at: usize) -> Entry
     called(event::Call::Request(request), next)
 }
 
-fn wide(byte: u8) -> u64
-    ensures { λ r. ⌜ r ≡ byte ⌝ }
+// The summary is asked for at place 0 alone, where the event's first byte is.
+fn summary_at(start: usize, at: usize) -> Entry
+    ensures { λ r. ⌜ told r ≡ summaryAt start at ⌝ }
 {
-    byte as u64
-}
-
-// The code of the event that asks for the summary.
-const SUMMARY: u64 = 4;
-
-// The summary is asked for at place 0 alone; any other code is unknown.
-fn other_at(code: u64, start: usize, at: usize) -> Entry
-    ensures { λ r. ⌜ told r ≡ otherAt start code at ⌝ }
-{
-    if (code == SUMMARY) & (start == 0) {
+    if start == 0 {
         return Entry::Whole {
             event: Event::Summary,
             next: at,
@@ -200,11 +191,21 @@ pub fn read(bytes: &[u8], at: usize) -> Entry
         1 => setting_at(bytes, next),
         2 => request_at(bytes, next),
         3 => called(event::Call::Reading, next),
-        _ => other_at(code, at, next),
+        4 => summary_at(at, next),
+        _ => Entry::Refused(REFUSED_FIELD),
     }
 }
 
-// Whether the first event asks for the summary. The code 4 has one written form, of one byte.
+// The code of the event that asks for the summary: its one written form is one byte.
+const SUMMARY: u64 = 4;
+
+fn wide(byte: u8) -> u64
+    ensures { λ r. ⌜ r ≡ byte ⌝ }
+{
+    byte as u64
+}
+
+// Whether the first event asks for the summary.
 pub fn asks_summary(bytes: &[u8]) -> bool
     ensures { λ r. ⌜ r ≡ asksSummary (now (bytes .entry)) ⌝ }
 {

@@ -12,9 +12,9 @@ use Rattle.number.specs.Sequence.{then}
 use Rattle.number.specs.Mapping.{unmapped}
 use Rattle.label.specs.Label.{labelOf}
 use Rattle.clock.specs.Ticks.{ranOf, ticksOf}
-use Rattle.history.specs.Event.{fieldAt, ticksAt, requestAt, otherAt, argumentsAt, eventAt}
+use Rattle.history.specs.Event.{fieldAt, ticksAt, requestAt, summaryAt, argumentsAt, eventAt}
 use Rattle.summary.specs.Summary.{withOffset}
-use Rattle.playback.specs.Lines.{decimalFrom, decimal, refusedLine, logLine, printLine, quarterLine, summaryLine}
+use Rattle.playback.specs.Lines.{decimalFrom, decimal, refusedLine, logLine, printLine, quarterLine, cellLine}
 use Rattle.playback.specs.Event.{outcomeOf, printedBy, printed, lineOf, summaryAfter}
 use Rattle.playback.specs.Run.{stepAtEnd, step, runAfter, linesOf, replayOf}
 use Rattle.playback.specs.Examples.{Examples, outputOf, WrongOutputs}
@@ -23,8 +23,8 @@ use Rattle.playback.proofs.Apart.{length-apart}
 pub examples : Examples outputOf
 unfolding deviceOf dateOf inRange rolledOver unitIn ticked tickRefusal tickOf ranOf ticksOf
     readingRefusal toldOf requestRefusal requestOf labelOf
-    leadingMore valueOf judged numberAt then unmapped fieldAt ticksAt requestAt otherAt argumentsAt eventAt
-    decimalFrom decimal refusedLine logLine printLine quarterLine summaryLine withOffset outcomeOf printedBy printed lineOf summaryAfter
+    leadingMore valueOf judged numberAt then unmapped fieldAt ticksAt requestAt summaryAt argumentsAt eventAt
+    decimalFrom decimal refusedLine logLine printLine quarterLine cellLine withOffset outcomeOf printedBy printed lineOf summaryAfter
     stepAtEnd step runAfter linesOf replayOf
 examples =
     record {

@@ -15,7 +15,7 @@ use Rattle.label.specs.Label.{labelOf}
 use Rattle.event.specs.declared.event.Call.the-variants.{Reading}
 use Rattle.event.specs.declared.event.Event.the-variants.{Call as single}
 use Rattle.history.specs.declared.Event.the-variants.{Call}
-use Rattle.history.specs.Event.{found, otherAt, argumentsAt, eventAt}
+use Rattle.history.specs.Event.{found, summaryAt, argumentsAt, eventAt}
 use Rattle.playback.specs.Lines.{decimalFrom, decimal, logLine, printLine}
 use Rattle.playback.specs.Event.{outcomeOf, printedBy, printed, lineOf, summaryAfter}
 use Rattle.playback.specs.Run.{Advanced, longestHistory, startOfRun, endOf, stepAtEnd, step, runAfter, linesOf}
@@ -33,7 +33,7 @@ line-at-its-edge = record { line = refl; room = refl; short = refl }
 
 -- a history that begins with a print
 print-first : (n : ℕ) → eventAt (prints (suc n)) 0 ≡ found (Call Reading) 1
-unfolding leadingMore valueOf judged numberAt then otherAt argumentsAt eventAt
+unfolding leadingMore valueOf judged numberAt then summaryAt argumentsAt eventAt
 print-first n = simp (lt-leb (suc (length (prints n))) 0 (omega arith))
 
 -- a history of prints that is run, and one that is too long
@@ -84,7 +84,7 @@ two-calls =
 
 end-at-its-edge : EndAtItsEdge
 unfolding deviceOf dateOf inRange readingRefusal toldOf leadingMore valueOf judged numberAt then
-    otherAt argumentsAt eventAt labelOf decimalFrom decimal printLine outcomeOf printedBy printed lineOf summaryAfter stepAtEnd step runAfter linesOf
+    summaryAt argumentsAt eventAt labelOf decimalFrom decimal printLine outcomeOf printedBy printed lineOf summaryAfter stepAtEnd step runAfter linesOf
 end-at-its-edge =
     record {
       steps = refl;

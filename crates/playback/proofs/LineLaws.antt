@@ -20,11 +20,11 @@ use Rattle.event.specs.declared.event.Call as call
 use Rattle.event.specs.declared.event.Call.the-variants.{Tick, Setting, Request, Reading}
 use Rattle.history.specs.declared.Event.the-variants.{Ticks, Call}
 use Rattle.clock.specs.Ticks.{ticksOf}
-use Rattle.playback.specs.Lines.{space, newline, refusedLine, logLine, printLine, quarterLine}
+use Rattle.playback.specs.Lines.{space, newline, refusedLine, logLine, printLine, quarterLine, cellLine}
 use Rattle.playback.specs.Event.{outcomeOf, printedBy, printed, lineOf}
 use Rattle.playback.specs.Run.{longestHistory}
 use Rattle.playback.specs.Filling.{longestLine}
-use Rattle.playback.specs.Inner.{isReading, refusalLine, lineOfCell}
+use Rattle.playback.specs.Inner.{isReading, refusalLine}
 use Rattle.playback.proofs.Decimal.{decimal-last, length-last, decimal-length}
 
 -- ---- lengths
@@ -50,8 +50,8 @@ unfolding quarterLine
 by-count q n m h g true = omega arith
 by-count q n m h g false = simp length-append (omega (arith, decimal-length 4 n (omega arith), decimal-length 9 m (omega arith)))
 
-pub cell-small : (q n m : ℕ) → n < 65536 → m < 4294967296 → length (lineOfCell q n m) ≤ longestLine
-unfolding lineOfCell
+pub cell-small : (q n m : ℕ) → n < 65536 → m < 4294967296 → length (cellLine q n m) ≤ longestLine
+unfolding cellLine
 cell-small q n m h g = by-count q n m h g (eqb n 0)
 
 pub label-length : (c : Clock) → length (clockLabel c) ≡ 20

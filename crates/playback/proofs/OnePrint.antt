@@ -9,7 +9,7 @@ use Rattle.clock.specs.Reading.{readingRefusal, toldOf}
 use Rattle.number.specs.Reading.{leadingMore, valueOf, judged, numberAt}
 use Rattle.number.specs.Sequence.{then}
 use Rattle.label.specs.Label.{labelOf}
-use Rattle.history.specs.Event.{otherAt, argumentsAt, eventAt}
+use Rattle.history.specs.Event.{summaryAt, argumentsAt, eventAt}
 use Rattle.playback.specs.Lines.{decimalFrom, decimal, printLine}
 use Rattle.playback.specs.Event.{outcomeOf, printedBy, printed, lineOf, summaryAfter}
 use Rattle.playback.specs.Run.{startOfRun, stepAtEnd, step, runAfter, linesOf}
@@ -19,7 +19,7 @@ use Rattle.playback.specs.WrongRuns.{onePrint, itsLine, afterPrint, atEn
 -- the first call writes the line, and the second finds the end
 pub first-call : Fills onePrint startOfRun (blank 30) itsLine (answer 0 afterPrint 30)
 unfolding deviceOf dateOf inRange readingRefusal toldOf leadingMore valueOf judged numberAt then
-    otherAt argumentsAt eventAt labelOf decimalFrom decimal printLine outcomeOf printedBy printed lineOf summaryAfter stepAtEnd step runAfter linesOf
+    summaryAt argumentsAt eventAt labelOf decimalFrom decimal printLine outcomeOf printedBy printed lineOf summaryAfter stepAtEnd step runAfter linesOf
 first-call =
     record {
       refusal = refl;
@@ -35,7 +35,7 @@ first-call =
     }
 
 pub second-call : Fills onePrint afterPrint (blank 30) (blank 30) (answer 0 atEnd 0)
-unfolding leadingMore valueOf judged numberAt then otherAt argumentsAt eventAt stepAtEnd step runAfter linesOf
+unfolding leadingMore valueOf judged numberAt then summaryAt argumentsAt eventAt stepAtEnd step runAfter linesOf
 second-call =
     record {
       refusal = refl;

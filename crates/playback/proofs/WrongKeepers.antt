@@ -10,10 +10,10 @@ use Rattle.request.specs.Request.{requestRefusal, requestOf}
 use Rattle.number.specs.Reading.{leadingMore, valueOf, judged, numberAt}
 use Rattle.number.specs.Sequence.{then}
 use Rattle.number.specs.Mapping.{unmapped}
-use Rattle.history.specs.Event.{fieldAt, requestAt, otherAt, argumentsAt, eventAt}
+use Rattle.history.specs.Event.{fieldAt, requestAt, summaryAt, argumentsAt, eventAt}
 use Rattle.summary.specs.Summary.{withOffset}
 use Rattle.summary.specs.declared.cells.Summary.{Summary}
-use Rattle.playback.specs.Lines.{decimalFrom, decimal, logLine, quarterLine, summaryLine}
+use Rattle.playback.specs.Lines.{decimalFrom, decimal, logLine, quarterLine, cellLine}
 use Rattle.playback.specs.Event.{outcomeOf, printedBy, printed, lineOf, summaryAfter}
 use Rattle.playback.specs.Run.{stepAtEnd, step, runAfter, linesOf, replayOf}
 use Rattle.playback.specs.Summaries.{linesFrom, EventsDone, Undecodable}
@@ -24,17 +24,17 @@ use Rattle.playback.proofs.Summaries.{summary-of-history}
 -- the events have been run after the offset, or what is no event stands there
 asked-done : EventsDone asked 2
 unfolding deviceOf inRange requestRefusal requestOf leadingMore valueOf judged numberAt then unmapped
-    fieldAt requestAt otherAt argumentsAt eventAt outcomeOf summaryAfter stepAtEnd step runAfter
+    fieldAt requestAt summaryAt argumentsAt eventAt outcomeOf summaryAfter stepAtEnd step runAfter
 asked-done = record { fits = omega arith; going = refl; over = omega arith; first = refl }
 
 unasked-done : EventsDone unasked 1
 unfolding deviceOf inRange requestRefusal requestOf leadingMore valueOf judged numberAt then unmapped
-    fieldAt requestAt otherAt argumentsAt eventAt outcomeOf summaryAfter stepAtEnd step runAfter
+    fieldAt requestAt summaryAt argumentsAt eventAt outcomeOf summaryAfter stepAtEnd step runAfter
 unasked-done = record { fits = omega arith; going = refl; over = omega arith; first = refl }
 
 damaged-there : Undecodable damaged 2 12
 unfolding deviceOf inRange requestRefusal requestOf leadingMore valueOf judged numberAt then unmapped
-    fieldAt requestAt otherAt argumentsAt eventAt outcomeOf summaryAfter stepAtEnd step runAfter
+    fieldAt requestAt summaryAt argumentsAt eventAt outcomeOf summaryAfter stepAtEnd step runAfter
 damaged-there = record { fits = omega arith; going = refl; before = omega arith; none = refl }
 
 count-apart : {a b : Summary} → eqb (getD (a .counts) 0 0) (getD (b .counts) 0 0) ≡ false → a ≡ b → ⊥
@@ -42,7 +42,7 @@ count-apart e h = not-same e (ap (λ (m : Summary). getD (m .counts) 0 0) h)
 
 pub wrong-keepers : WrongKeepers
 unfolding deviceOf inRange requestRefusal requestOf leadingMore valueOf judged numberAt then unmapped
-    fieldAt requestAt otherAt argumentsAt eventAt withOffset decimalFrom decimal logLine quarterLine summaryLine
+    fieldAt requestAt summaryAt argumentsAt eventAt withOffset decimalFrom decimal logLine quarterLine cellLine
     outcomeOf printedBy printed lineOf summaryAfter stepAtEnd step runAfter linesOf linesFrom replayOf
 wrong-keepers =
     record {

@@ -22,7 +22,7 @@ use Rattle.event.specs.declared.event.Event.the-variants.{Call as single}
 use Rattle.bounds.specs.Calls.{afterBy, countAmongBy, noneAmongBy}
 use Rattle.bounds.specs.Singly.{singleTicks, singlyFrom, asEvents}
 use Rattle.bounds.specs.Measure.{measureOf}
-use Rattle.history.specs.Event.{ticksAt, otherAt, argumentsAt, eventAt}
+use Rattle.history.specs.Event.{ticksAt, summaryAt, argumentsAt, eventAt}
 use Rattle.playback.specs.Lines.{decimalFrom, decimal, printLine}
 use Rattle.playback.specs.Event.{outcomeOf, printedBy, printed, lineOf, summaryAfter}
 use Rattle.playback.specs.Run.{stepAtEnd, step, runAfter}
@@ -39,16 +39,16 @@ shown-apart e h = not-same e (ap (λ (c : shows.Reading). c .micros .0) h)
 
 -- the event between the ticks is a print, and so is one alone
 print-between : PrintAt printBetween 1
-unfolding leadingMore valueOf judged numberAt then ticksAt otherAt argumentsAt eventAt stepAtEnd step runAfter
+unfolding leadingMore valueOf judged numberAt then ticksAt summaryAt argumentsAt eventAt stepAtEnd step runAfter
 print-between = record { fits = omega arith; going = refl; next = 3; print = refl }
 
 print-alone : PrintAt lonePrint 0
-unfolding leadingMore valueOf judged numberAt then otherAt argumentsAt eventAt runAfter
+unfolding leadingMore valueOf judged numberAt then summaryAt argumentsAt eventAt runAfter
 print-alone = record { fits = omega arith; going = refl; next = 1; print = refl }
 
 pub wrong-replays : WrongReplays
 unfolding deviceOf measureOf dateOf inRange rolledOver unitIn ticked tickRefusal tickOf readingRefusal
-    toldOf ranOf ticksOf leadingMore valueOf judged numberAt then ticksAt otherAt argumentsAt eventAt labelOf
+    toldOf ranOf ticksOf leadingMore valueOf judged numberAt then ticksAt summaryAt argumentsAt eventAt labelOf
     decimalFrom decimal printLine outcomeOf printedBy printed lineOf summaryAfter stepAtEnd step runAfter afterBy countAmongBy
     noneAmongBy singleTicks singlyFrom asEvents callsFrom callsOfFirst joined
 wrong-replays =

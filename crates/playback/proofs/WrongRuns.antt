@@ -14,7 +14,7 @@ use Rattle.clock.specs.Reading.{readingRefusal, toldOf}
 use Rattle.number.specs.Reading.{leadingMore, valueOf, judged, numberAt}
 use Rattle.number.specs.Sequence.{then}
 use Rattle.label.specs.Label.{labelOf}
-use Rattle.history.specs.Event.{otherAt, argumentsAt, eventAt}
+use Rattle.history.specs.Event.{summaryAt, argumentsAt, eventAt}
 use Rattle.summary.specs.Summary.{withOffset}
 use Rattle.playback.specs.Lines.{decimalFrom, decimal, printLine}
 use Rattle.playback.specs.Event.{outcomeOf, printedBy, printed, lineOf, summaryAfter}
@@ -37,14 +37,14 @@ place-apart e h = not-same e (ap (λ (r : Filling). r .run .place) h)
 by-silent : (f : Fills onePrint startOfRun (blank 60) (blank 60) (answer 0 atEnd 0)) (k : ℕ)
     → f .steps ≡ k → ⊥
 unfolding deviceOf dateOf inRange readingRefusal toldOf leadingMore valueOf judged numberAt then
-    otherAt argumentsAt eventAt labelOf decimalFrom decimal printLine outcomeOf printedBy printed lineOf summaryAfter stepAtEnd step runAfter
+    summaryAt argumentsAt eventAt labelOf decimalFrom decimal printLine outcomeOf printedBy printed lineOf summaryAfter stepAtEnd step runAfter
     linesOf
 by-silent f zero e = ended-apart refl refl (rw e at (f .stands))
 by-silent f (suc k) e = byte-apart 0 refl (rw e at (f .written))
 
 pub wrong-fills : WrongFills
 unfolding deviceOf dateOf inRange readingRefusal toldOf leadingMore valueOf judged numberAt then
-    otherAt argumentsAt eventAt labelOf decimalFrom decimal printLine outcomeOf printedBy printed lineOf summaryAfter stepAtEnd step runAfter
+    summaryAt argumentsAt eventAt labelOf decimalFrom decimal printLine outcomeOf printedBy printed lineOf summaryAfter stepAtEnd step runAfter
     linesOf
 wrong-fills =
     record {
@@ -71,7 +71,7 @@ counts-apart e h = not-same e (ap (λ (p : Played). getD (p .summary .counts) 0 
 
 pub wrong-repeats : WrongRepeats
 unfolding deviceOf dateOf inRange readingRefusal toldOf leadingMore valueOf judged numberAt then
-    otherAt argumentsAt eventAt labelOf decimalFrom decimal printLine outcomeOf printedBy printed lineOf summaryAfter stepAtEnd step runAfter
+    summaryAt argumentsAt eventAt labelOf decimalFrom decimal printLine outcomeOf printedBy printed lineOf summaryAfter stepAtEnd step runAfter
     linesOf replayOf withOffset
 wrong-repeats =
     record {

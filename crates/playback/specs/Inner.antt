@@ -12,7 +12,7 @@ use Rattle.event.specs.declared.event.Call.the-variants.{Tick, Setting, Request
 use Rattle.history.specs.declared.Event.{Event}
 use Rattle.history.specs.Event.{asksSummary}
 use Rattle.summary.specs.Summary.{quarters, summaryOf}
-use Rattle.playback.specs.Lines.{refusedLine, quarterLine}
+use Rattle.playback.specs.Lines.{refusedLine}
 use Rattle.playback.specs.Event.{outcomeOf, lineOf, summaryAfter}
 use Rattle.playback.specs.Run.{longestHistory, step, runAfter, linesOf}
 use Rattle.playback.specs.Filling.{longestLine}
@@ -37,10 +37,6 @@ isReading Reading = true
 -- the line of a refusal; 0 stands for none
 unfoldable pub refusalLine : ℕ → List ℕ
 refusalLine n = cond (eqb n 0) [] (refusedLine n)
-
--- the line of a cell of the summary
-unfoldable pub lineOfCell : ℕ → ℕ → ℕ → List ℕ
-lineOfCell q n m = cond (eqb n 0) [] (quarterLine q n m)
 
 -- the event e ran on c, and its line was put
 pub record RunsEvent (c : Clock) (e : Event) (buf : List ℕ) (at : ℕ) (buf′ : List ℕ) (r : Done) : Type 0 where
@@ -75,8 +71,8 @@ abbrev pub Advances : List ℕ → Walk → (counts largest buf : List ℕ) → 
 Advances s w counts largest buf at counts′ largest′ buf′ r =
     (q : ℕ) → Steps s (standing w counts largest q) buf at buf′ (standing (r .walk) counts′ largest′ q) (r .at)
 
--- after k steps from `run` the run has not ended, and of `room` bytes enough are left for one more line, where the
--- lines of the steps began at `at`
+-- after k steps from `run` the run has not ended, and of `room` bytes enough are left for one more line,
+-- where the lines of the steps began at `at`
 pub record Going (s : List ℕ) (run : Run) (room at k : ℕ) : Type 0 where
   pub going : runAfter k s run .ended ≡ false
   pub enough : at + length (linesOf k s run) + longestLine ≤ room

@@ -39,12 +39,16 @@ logLine n p = (0x6C ∷ 0x6F ∷ 0x67 ∷ space ∷ decimal n) ++ (space ∷ 0x6
 unfoldable pub printLine : Clock → List ℕ
 printLine c = clockLabel c ++ (space ∷ six (c .micros .0)) ++ (space ∷ decimal (c .status)) ++ (newline ∷ [])
 
--- Document 02, Req 08: "one line `QQ N M` .., QQ two digits": the quarter-hour, how many offsets were accepted in
--- it, and the largest size among them (us)
+-- Document 02, Req 08: "one line `QQ N M` .., QQ two digits": the quarter-hour, how many offsets were
+-- accepted in it, and the largest size among them (us)
 unfoldable pub quarterLine : ℕ → ℕ → ℕ → List ℕ
 quarterLine q n m =
     (digit (q / 10) ∷ digit q ∷ space ∷ decimal n) ++ (space ∷ decimal m) ++ (newline ∷ [])
 
 -- "for each quarter-hour with N above 0"
-unfoldable pub summaryLine : Summary → ℕ → List ℕ
-summaryLine m q = cond (eqb (getD (m .counts) q 0) 0) [] (quarterLine q (getD (m .counts) q 0) (getD (m .largest) q 0))
+unfoldable pub cellLine : ℕ → ℕ → ℕ → List ℕ
+cellLine q n m = cond (eqb n 0) [] (quarterLine q n m)
+
+-- the line of a quarter-hour of a summary
+abbrev pub summaryLine : Summary → ℕ → List ℕ
+summaryLine m q = cellLine q (getD (m .counts) q 0) (getD (m .largest) q 0)

@@ -6,10 +6,10 @@ ghost use Prim.Native.Nat.{_+_, _≤_, _<_};
 ghost use lib.ListN.{length};
 ghost use Rattle.state.specs.State.{inRange};
 ghost use Rattle.label.specs.Label.{digit as Label·digit};
-ghost use Rattle.playback.specs.Lines.{decimal, logLine, printLine};
+ghost use Rattle.playback.specs.Lines.{decimal, logLine, printLine, cellLine};
 ghost use Rattle.playback.specs.Run.{longestHistory};
 ghost use Rattle.playback.specs.Filling.{longestLine};
-ghost use Rattle.playback.specs.Inner.{Puts, refusalLine, lineOfCell};
+ghost use Rattle.playback.specs.Inner.{Puts, refusalLine};
 use clock::Clock;
 
 // The length of a label, in bytes.
@@ -110,8 +110,8 @@ pub(crate) fn put_quarter(
     largest: u32,
 ) -> usize
     requires { ⌜ at + longestLine ≤ length (now out) ⌝ }
-    ensures { λ r. ⌜ Puts (lineOfCell quarter count largest) (now (out .entry)) at (now (out .exit)) r ⌝ }
-    ensures { λ _. ⌜ length (lineOfCell quarter count largest) ≤ longestLine ⌝ }
+    ensures { λ r. ⌜ Puts (cellLine quarter count largest) (now (out .entry)) at (now (out .exit)) r ⌝ }
+    ensures { λ _. ⌜ length (cellLine quarter count largest) ≤ longestLine ⌝ }
 {
     if count == 0 {
         return at;

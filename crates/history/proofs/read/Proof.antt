@@ -51,8 +51,8 @@ request-at-requires c κs = search needs
 called-requires : tie.Need-called-requires
 called-requires c κs = search needs
 
-other-at-requires : tie.Need-other-at-requires
-other-at-requires c κs = search needs
+summary-at-requires : tie.Need-summary-at-requires
+summary-at-requires c κs = search needs
 
 returns-2 : tie.Need-returns-2
 unfolding argumentsAt
@@ -72,11 +72,20 @@ returns-5 c = brought (c .before .before) (simp (c .before .match2 .keys4) (c .c
 
 returns-6 : tie.Need-returns-6
 unfolding argumentsAt
-returns-6 c =
-    let no = c .before .match2 .rest in
-    brought (c .before .before)
-    (simp (ne-eqb _ _ (no .1), ne-eqb _ _ (no .0 .1), ne-eqb _ _ (no .0 .0 .1), ne-eqb _ _ (no .0 .0 .0 .1))
-    (c .other-at .ensures))
+returns-6 c = brought (c .before .before) (simp (c .before .match2 .keys5) (c .summary-at .ensures))
+
+returns-7 : tie.Need-returns-7
+unfolding argumentsAt
+returns-7 c =
+    let no = c .match2 .rest in
+    brought (c .before)
+    (simp (
+      ne-eqb _ _ (no .1),
+      ne-eqb _ _ (no .0 .1),
+      ne-eqb _ _ (no .0 .0 .1),
+      ne-eqb _ _ (no .0 .0 .0 .1),
+      ne-eqb _ _ (no .0 .0 .0 .0 .1),
+    ))
 
 pub read-spec : {M : Type 1} → statement M
 read-spec =
@@ -91,9 +100,10 @@ read-spec =
     setting-at-requires
     request-at-requires
     called-requires
-    other-at-requires
+    summary-at-requires
     returns-2
     returns-3
     returns-4
     returns-5
-    returns-6)
+    returns-6
+    returns-7)

@@ -3,9 +3,8 @@ use Prim.Native.Nat.{_≤_}
 use native.Mathlib.Omega.{arith}
 use lib.ListN.{length}
 use borrow.Author.Tests.{eq-eqb, ne-eqb}
-use Rattle.playback.specs.Lines.{decimal, quarterLine}
+use Rattle.playback.specs.Lines.{decimal, quarterLine, cellLine}
 use Rattle.playback.specs.Filling.{longestLine}
-use Rattle.playback.specs.Inner.{lineOfCell}
 use Rattle.playback.proofs.Decimal.{decimal-length}
 use Rattle.playback.proofs.Buffers.{puts-none, puts-then, puts-length}
 use Rattle.playback.proofs.LineLaws.{cell-small}
@@ -17,11 +16,11 @@ use Rattle.playback.proofs.lines.put_quarter.Tie as tie
 small : (s : tie.Start) → (length (decimal (s .args .count)) ≤ 5) × (length (decimal (s .args .largest)) ≤ 10)
 small s = (decimal-length 4 (s .args .count) (omega arith), decimal-length 9 (s .args .largest) (omega arith))
 
-fits : (s : tie.Start) → length (lineOfCell (s .args .quarter) (s .args .count) (s .args .largest)) ≤ longestLine
+fits : (s : tie.Start) → length (cellLine (s .args .quarter) (s .args .count) (s .args .largest)) ≤ longestLine
 fits s = cell-small (s .args .quarter) (s .args .count) (s .args .largest) (omega arith) (omega arith)
 
 returns : tie.Need-returns
-unfolding lineOfCell
+unfolding cellLine
 returns c =
     let s = c .before .before in
     (simp (eq-eqb _ _ (c .if1 .taken)) (puts-none (s .args .out .now) (s .args .at)), fits s)
@@ -64,7 +63,7 @@ same-length : tie.Need-same-length
 same-length c = search needs
 
 returns-2 : tie.Need-returns-2
-unfolding lineOfCell quarterLine
+unfolding cellLine quarterLine
 returns-2 c =
     let q = c .before .before .before .before .before .before .before in
     let p = q .before .before .before .before .before in

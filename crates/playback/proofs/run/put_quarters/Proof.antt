@@ -1,21 +1,19 @@
 -- `playback::put_quarters` meets its contract. The loop's invariant: the lines of the quarter-hours before the next
 -- one are in the buffer, as those of so many steps of any run that has come to the end of its bytes. The measure is
 -- the number of quarter-hours that are left.
-use mathlib.Core.Path.{_≡_, refl, sym, _∙_, ap}
-use mathlib.Core.Bool.{true, _&&_}
+use mathlib.Core.Path.{_≡_, refl, _∙_}
 use mathlib.Core.List.{List}
 use Prim.Native.Nat.{ℕ, suc, _+_, _-_, _<_, _≤_}
 use native.Mathlib.Omega.{arith}
 use lib.Dec.{leb, ltb}
-use lib.ListN.{length, getD}
+use lib.ListN.{length}
 use borrow.Author.Tests.{leb-true, ltb-true, lt-ltb}
-use borrow.Author.Needs.{needs}
-use Rattle.integers.proofs.Ranges.{and-true, true-and}
+use Rattle.integers.proofs.Ranges.{and-true}
 use Rattle.state.specs.declared.state.Clock.{Clock}
 use Rattle.summary.specs.Summary.{quarters, summaryOf}
 use Rattle.playback.specs.Lines.{summaryLine}
 use Rattle.playback.specs.Filling.{longestLine}
-use Rattle.playback.specs.Inner.{Puts, lineOfCell, Steps, Made, listing, Summing, PutsQuarters}
+use Rattle.playback.specs.Inner.{Puts, Steps, listing, Summing, PutsQuarters}
 use Rattle.playback.proofs.RunLaws.{step-quarter}
 use Rattle.playback.proofs.Buffers.{puts-length}
 use Rattle.playback.proofs.FillLaws.{stepped, made-none, made-one, made-then}
@@ -23,18 +21,11 @@ use Rattle.playback.proofs.run.put_quarters.Statement.{statement}
 use Rattle.playback.proofs.run.put_quarters.Tie as tie
 
 -- the line of the next quarter-hour is a step
-module _ (counts largest : List ℕ) where
-  as-line : (q : ℕ) → lineOfCell q (getD counts q 0) (getD largest q 0) ≡ summaryLine (summaryOf counts largest) q
-  unfolding lineOfCell summaryLine
-  as-line q = refl
-
-  one-quarter : (s : List ℕ) (c : Clock) (place : ℕ) → Summing s place → {q at p : ℕ} {buf buf′ : List ℕ} → q < quarters
-      → length (lineOfCell q (getD counts q 0) (getD largest q 0)) ≤ longestLine
-      → Puts (lineOfCell q (getD counts q 0) (getD largest q 0)) buf at buf′ p
-      → Steps s (listing c place q counts largest) buf at buf′ (listing c place (suc q) counts largest) p
-  one-quarter s c place h {q} small l x =
-      stepped (step-quarter s (listing c place q counts largest) refl (h .fits) (h .over) (simp (h .asked, lt-ltb _ _ small)))
-      refl (rw (as-line q) at x) (rw (as-line q) at l)
+one-quarter : (counts largest s : List ℕ) (c : Clock) (place : ℕ) → Summing s place → {q at p : ℕ} {buf buf′ : List ℕ} → q < quarters
+    → Puts (summaryLine (summaryOf counts largest) q) buf at buf′ p → length (summaryLine (summaryOf counts largest) q) ≤ longestLine
+    → Steps s (listing c place q counts largest) buf at buf′ (listing c place (suc q) counts largest) p
+one-quarter counts largest s c place h {q} small x l =
+    stepped (step-quarter s (listing c place q counts largest) refl (h .fits) (h .over) (simp (h .asked, lt-ltb _ _ small))) refl x l
 
 abbrev Inv-loop : tie.InvT-loop
 Inv-loop counts largest first out₀ start last quarter₀ at₀ out quarter at =
@@ -89,7 +80,7 @@ loop-again c =
     let x = c .before .before .put-quarter .ensures in
     let e : L .quarter + 1 ≡ suc (L .quarter) = omega arith in (
       (λ s d place h. rw (e) (made-then s (L .inv .0 s d place h)
-          (made-one s refl (here t .1) (one-quarter (a .counts .now) (a .largest .now) s d place h (here t .0) (x .1) (x .0))))),
+          (made-one s refl (here t .1) (one-quarter (a .counts .now) (a .largest .now) s d place h (here t .0) (x .0) (x .1))))),
       L .inv .1,
       puts-length (x .0) ∙ L .inv .2,
     )
