@@ -85,8 +85,8 @@ fieldsAt mode bits s n0 =
 unfoldable pub requestAt : List ℕ → ℕ → Found
 requestAt s at = then refused (numberAt s at) (λ mode n0. fieldsAt mode (mode % suc greatestMode) s n0)
 
--- document 02, Req 08: "the first history event is the new code 4, which is allowed only there (elsewhere 12)":
--- the event whose first byte is at place 0. In a rig for C code 4 is another event.
+-- document 02, Req 08: "the first history event is the new code 4, which is allowed only there (elsewhere
+-- 12)": the event whose first byte is at place 0. In a rig for C code 4 is another event.
 unfoldable pub summaryAt : ℕ → ℕ → Found
 summaryAt start at = cond (eqb start 0) (found Summary at) (refused refusedField)
 

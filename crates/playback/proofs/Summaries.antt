@@ -3,25 +3,29 @@
 use mathlib.Core.Path.{_≡_, refl, sym, _∙_, ap}
 use mathlib.Core.Bool.{Bool, true, false, cond, _&&_}
 use mathlib.Core.List.{List, [], _++_, append-nil}
-use Prim.Native.Nat.{ℕ, zero, suc, _+_, _≤_}
+use Prim.Native.Nat.{ℕ, zero, suc, _+_, _-_, _<_, _≤_}
 use native.Mathlib.Omega.{arith}
-use lib.Dec.{ltb}
+use lib.Dec.{leb, ltb}
 use lib.ListN.{length}
-use borrow.Author.Tests.{lt-ltb, le-ltb}
+use borrow.Author.Tests.{lt-ltb, le-ltb, leb-true, leb-false, ltb-true, ltb-false}
 use Rattle.state.specs.Device.{kind256}
 use Rattle.state.specs.State.{freshClock}
-use Rattle.history.specs.Event.{asksSummary}
+use Rattle.history.specs.Event.{Found, found, refused, eventAt, asksSummary}
+use Rattle.history.specs.Properties.{Past}
+use Rattle.history.specs.declared.Event.{Event}
+use Rattle.history.proofs.Extent.{event-past}
 use Rattle.summary.specs.Summary.{quarters, emptySummary}
 use Rattle.summary.specs.declared.cells.Summary.{Summary}
 use Rattle.summary.proofs.Carried.{carried-is-afresh}
 use Rattle.playback.specs.Lines.{logLine, summaryLine}
-use Rattle.playback.specs.Run.{Advanced, longestHistory, startOfRun, endOf, pastQuarter, step, runAfter, linesOf}
+use Rattle.playback.specs.Run.{Advanced, longestHistory, startOfRun, past, pastQuarter, runAfter, linesOf}
 use Rattle.playback.specs.Run.{stepsToEnd, replayOf}
 use Rattle.playback.specs.Calls.{callsOfFirst, allCalls}
 use Rattle.playback.specs.Summaries.{summaryOfCalls, linesFrom, summaryLines, EventsDone, Undecodable}
-use Rattle.playback.specs.Summaries.{keeper, SummaryOfHistory, SummaryOfEveryHistory}
+use Rattle.playback.specs.Summaries.{SummaryOfEveryHistory, Comes, tooLong, done, stops, EveryHistoryComes}
 use Rattle.playback.specs.declared.run.Run.{Run}
-use Rattle.playback.proofs.RunLaws.{step-end, step-quarter, step-found, lines-append, run-append, same-end, start-ends}
+use Rattle.playback.proofs.RunLaws.{step-long, step-end, step-quarter, step-found}
+use Rattle.playback.proofs.RunLaws.{run-more, lines-append, run-append, same-end, start-ends}
 use Rattle.playback.proofs.Calls.{rests, summaries}
 
 module _ (s : List ℕ) (fits : length s ≤ longestHistory) where
@@ -94,6 +98,12 @@ module _ (s : List ℕ) where
       let x = step-found s (runAfter k s startOfRun) (u .going) (u .fits) (u .before) (u .none) in
       all-lines k 1 (ap (λ (z : Advanced). z .run .ended) x) (append-nil _ ∙ ap (λ (z : Advanced). z .line) x)
 
+  beyond : longestHistory < length s → replayOf s .output ≡ logLine 13 longestHistory
+  unfolding runAfter linesOf
+  beyond h =
+      let x = step-long s startOfRun refl h in
+      all-lines 0 1 (ap (λ (z : Advanced). z .run .ended) x) (append-nil _ ∙ ap (λ (z : Advanced). z .line) x)
+
 pub summary-of-history : SummaryOfEveryHistory
 unfolding replayOf
 summary-of-history s =
@@ -102,4 +112,54 @@ summary-of-history s =
       whole = cc (steps s (stepsToEnd s));
       printed = λ k d. printed s k d _ refl;
       logged = logged s;
+      beyond = λ h. beyond s h;
     }
+
+-- ---- every history comes to an end of its events
+
+module _ (s : List ℕ) (fits : length s ≤ longestHistory) where
+  -- the run after k steps has not ended, and no quarter-hour has been printed
+  record Onward (k : ℕ) : Type 0 where
+    going : runAfter k s startOfRun .ended ≡ false
+    first : runAfter k s startOfRun .quarter ≡ 0
+
+  module _ (k : ℕ) (o : Onward k) where
+    abbrev now : Run
+    now = runAfter k s startOfRun
+
+    -- after an event too
+    moved : {e : Event} {next : ℕ} → now .place < length s → eventAt s (now .place) ≡ found e next
+        → runAfter (suc k) s startOfRun ≡ past now e next
+    moved h i = run-more s k startOfRun ∙ ap (λ (a : Advanced). a .run) (step-found s now (o .going) fits h i)
+
+    by-event : (n : ℕ) → length s ≤ now .place + suc n → now .place < length s
+        → (Onward (suc k) → length s ≤ runAfter (suc k) s startOfRun .place + n → Comes s)
+        → (x : Found) → eventAt s (now .place) ≡ x → Comes s
+    by-event n l h rest (found e next) i =
+        let x = moved h i in
+        let p : Past s (now .place) next = event-past s (now .place) _ _ i in
+        let there : runAfter (suc k) s startOfRun .place ≡ next = ap (λ (r : Run). r .place) x in
+        rest (record { going = ap (λ (r : Run). r .ended) x; first = ap (λ (r : Run). r .quarter) x ∙ o .first })
+        (omega (arith, there, p .after))
+    by-event n l h rest (refused m) i = stops k m (record { fits = fits; going = o .going; before = h; none = i })
+
+    over-there : length s ≤ now .place → Comes s
+    over-there h = done k (record { fits = fits; going = o .going; over = h; first = o .first })
+
+  by-place : (n k : ℕ) → ((j : ℕ) → Onward j → length s ≤ runAfter j s startOfRun .place + n → Comes s) → (o : Onward k)
+      → length s ≤ runAfter k s startOfRun .place + suc n → (b : Bool) → leb (length s) (runAfter k s startOfRun .place) ≡ b → Comes s
+  by-place n k f o l true t = over-there k o (leb-true _ _ t)
+  by-place n k f o l false t = by-event k o n l (leb-false _ _ t) (f (suc k)) _ refl
+
+  -- with so many bytes left at most
+  comes : (n k : ℕ) → Onward k → length s ≤ runAfter k s startOfRun .place + n → Comes s
+  comes zero k o l = over-there k o (omega arith)
+  comes (suc n) k o l = by-place n k (comes n) o l _ refl
+
+by-length : (s : List ℕ) (b : Bool) → ltb longestHistory (length s) ≡ b → Comes s
+unfolding runAfter
+by-length s true t = tooLong (ltb-true _ _ t)
+by-length s false t = comes s (ltb-false _ _ t) (length s) 0 (record { going = refl; first = refl }) (omega arith)
+
+pub every-history-comes : EveryHistoryComes
+every-history-comes s = by-length s _ refl

@@ -14,9 +14,11 @@ use Rattle.clock.specs.Reading.{readingRefusal, toldOf}
 use Rattle.number.specs.Reading.{leadingMore, valueOf, judged, numberAt}
 use Rattle.number.specs.Sequence.{then}
 use Rattle.label.specs.Label.{labelOf}
-use Rattle.history.specs.Event.{summaryAt, argumentsAt, eventAt}
+use Rattle.request.specs.Request.{requestRefusal, requestOf}
+use Rattle.number.specs.Mapping.{unmapped}
+use Rattle.history.specs.Event.{fieldAt, requestAt, summaryAt, argumentsAt, eventAt}
 use Rattle.summary.specs.Summary.{withOffset}
-use Rattle.playback.specs.Lines.{decimalFrom, decimal, printLine}
+use Rattle.playback.specs.Lines.{decimalFrom, decimal, printLine, quarterLine, cellLine}
 use Rattle.playback.specs.Event.{outcomeOf, printedBy, printed, lineOf, summaryAfter}
 use Rattle.playback.specs.Run.{Played, startOfRun, stepAtEnd, step, runAfter, linesOf, replayOf}
 use Rattle.playback.specs.Filling.{Fills}
@@ -70,7 +72,7 @@ counts-apart : {a b : Played} → eqb (getD (a .summary .counts) 0 0) (getD (b .
 counts-apart e h = not-same e (ap (λ (p : Played). getD (p .summary .counts) 0 0) h)
 
 pub wrong-repeats : WrongRepeats
-unfolding deviceOf dateOf inRange readingRefusal toldOf leadingMore valueOf judged numberAt then
+unfolding deviceOf dateOf inRange readingRefusal toldOf requestRefusal requestOf unmapped fieldAt requestAt leadingMore valueOf judged numberAt then quarterLine cellLine
     summaryAt argumentsAt eventAt labelOf decimalFrom decimal printLine outcomeOf printedBy printed lineOf summaryAfter stepAtEnd step runAfter
     linesOf replayOf withOffset
 wrong-repeats =
@@ -78,5 +80,7 @@ wrong-repeats =
       endless = λ r. true≢false (cc (r .ends (omega arith)));
       silent = λ r. output-apart refl (r .whole refl);
       elsewhere = λ r. kind-apart refl (r .whole refl);
+      endlessAsked = λ r. true≢false (cc (r .ends (omega arith)));
+      silentAsked = λ r. output-apart refl (r .whole refl);
       counted = λ r. counts-apart refl (r .whole refl);
     }

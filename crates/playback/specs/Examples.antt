@@ -34,13 +34,13 @@ refused4 =
     0x72 ∷ 0x65 ∷ 0x66 ∷ 0x75 ∷ 0x73 ∷ 0x65 ∷ 0x64 ∷ 0x20 ∷ 0x34 ∷ 0x0A
     ∷ 0x6C ∷ 0x6F ∷ 0x67 ∷ 0x20 ∷ 0x31 ∷ 0x32 ∷ 0x20 ∷ 0x61 ∷ 0x74 ∷ 0x20 ∷ 0x33 ∷ 0x0A ∷ []
 
--- `00 1 1`
+-- `95 1 2`
 abbrev pub oneOffset : List ℕ
-oneOffset = 0x30 ∷ 0x30 ∷ 0x20 ∷ 0x31 ∷ 0x20 ∷ 0x31 ∷ 0x0A ∷ []
+oneOffset = 0x39 ∷ 0x35 ∷ 0x20 ∷ 0x31 ∷ 0x20 ∷ 0x32 ∷ 0x0A ∷ []
 
--- `log 12 at 6`
-abbrev pub log12At6 : List ℕ
-log12At6 = 0x6C ∷ 0x6F ∷ 0x67 ∷ 0x20 ∷ 0x31 ∷ 0x32 ∷ 0x20 ∷ 0x61 ∷ 0x74 ∷ 0x20 ∷ 0x36 ∷ 0x0A ∷ []
+-- `log 12 at 9`
+abbrev pub log12At9 : List ℕ
+log12At9 = 0x6C ∷ 0x6F ∷ 0x67 ∷ 0x20 ∷ 0x31 ∷ 0x32 ∷ 0x20 ∷ 0x61 ∷ 0x74 ∷ 0x20 ∷ 0x39 ∷ 0x0A ∷ []
 
 pub record Examples (prints : List ℕ → List ℕ) : Type 0 where
   -- "Input `00 80 02 03` prints exactly `1970-01-01T00:00:01Z 000000 4`."
@@ -54,10 +54,10 @@ pub record Examples (prints : List ℕ → List ℕ) : Type 0 where
   pub unknownCode : prints (0x80 ∷ 0x01 ∷ 0x03 ∷ []) ≡ log12
   -- mode 65 brings an offset and is refused; then 4 is no code, and nothing after it is run
   pub highMode : prints (0x02 ∷ 0x41 ∷ 0x02 ∷ 0x04 ∷ 0x03 ∷ []) ≡ refused4
-  -- the summary is asked for, and an offset of -1 us is accepted, with a frequency of 64
-  pub summary : prints (0x04 ∷ 0x02 ∷ 0x03 ∷ 0x01 ∷ 0x80 ∷ 0x01 ∷ []) ≡ oneOffset
+  -- the summary is asked for, the clock is set to 86,399 s, and an offset of -2 us is accepted
+  pub summary : prints (0x04 ∷ 0x01 ∷ 0xFF ∷ 0xA2 ∷ 0x05 ∷ 0x00 ∷ 0x02 ∷ 0x01 ∷ 0x03 ∷ []) ≡ oneOffset
   -- it is not printed after `log`, here of its code at another place
-  pub askedAgain : prints (0x04 ∷ 0x02 ∷ 0x03 ∷ 0x01 ∷ 0x80 ∷ 0x01 ∷ 0x04 ∷ []) ≡ log12At6
+  pub askedAgain : prints (0x04 ∷ 0x01 ∷ 0xFF ∷ 0xA2 ∷ 0x05 ∷ 0x00 ∷ 0x02 ∷ 0x01 ∷ 0x03 ∷ 0x04 ∷ []) ≡ log12At9
   -- and has no line where no offset is accepted: no tick, no tick, and a time constant of 0
   pub noOffset : prints (0x04 ∷ 0x00 ∷ 0x00 ∷ 0x00 ∷ 0x00 ∷ 0x02 ∷ 0x20 ∷ 0x00 ∷ []) ≡ []
 
@@ -76,6 +76,6 @@ pub record WrongOutputs : Type 0 where
   pub longForm : Examples (emptyFor 2) → ⊥
   pub unknownCode : Examples (emptyFor 3) → ⊥
   pub highMode : Examples (emptyFor 5) → ⊥
-  pub summary : Examples (emptyFor 6) → ⊥
-  pub askedAgain : Examples (emptyFor 7) → ⊥
+  pub summary : Examples (emptyFor 9) → ⊥
+  pub askedAgain : Examples (emptyFor 10) → ⊥
   pub noOffset : Examples (emptyFor 8) → ⊥

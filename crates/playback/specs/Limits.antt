@@ -10,7 +10,7 @@ use Rattle.playback.specs.Run.{startOfRun, step, runAfter, stepsToEnd}
 use Rattle.playback.specs.Filling.{fillRefusal}
 use Rattle.playback.specs.Repeated.{Repeated, Replays}
 use Rattle.playback.specs.Calls.{callsOfFirst}
-use Rattle.playback.specs.WrongRuns.{onePrint, itsLine, afterPrint, atEnd}
+use Rattle.playback.specs.WrongRuns.{onePrint, itsLine, afterPrint, atEnd, asking, listed}
 
 -- a history of n prints
 abbrev pub prints : ℕ → List ℕ
@@ -33,12 +33,8 @@ pub record HistoryAtItsEdge : Type 0 where
   pub ended : step (prints 65537) startOfRun .run .ended ≡ true
   pub none : callsOfFirst 1 (prints 65537) ≡ []
 
--- a history that asks for the summary, of nothing
-abbrev pub asking : List ℕ
-asking = 0x04 ∷ []
-
 -- One more than the history has bytes: so many steps end the run of a print, and so many calls with room for
--- one line; one fewer do not. Where the summary is asked for, 96 more.
+-- one line; one fewer do not. Where the summary is asked for, 96 steps more do.
 pub record EndAtItsEdge : Type 0 where
   pub steps : stepsToEnd onePrint ≡ 2
   pub ended : runAfter 2 onePrint startOfRun .ended ≡ true
@@ -48,7 +44,7 @@ pub record EndAtItsEdge : Type 0 where
   pub one : Repeated onePrint 1 startOfRun itsLine afterPrint
   pub summed : stepsToEnd asking ≡ 98
   pub endedThen : runAfter 98 asking startOfRun .ended ≡ true
-  pub goingThen : runAfter 97 asking startOfRun .ended ≡ false
+  pub goingThen : runAfter 97 asking startOfRun ≡ listed
 
 pub record Limits : Type 0 where
   pub line : LineAtItsEdge

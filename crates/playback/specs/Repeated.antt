@@ -18,8 +18,8 @@ pub data Repeated (s : List ℕ) : ℕ → Run → List ℕ → Run → Type 0 w
 
 -- n calls wrote ws and left a run over s at `end`
 pub record Replays (s : List ℕ) (n : ℕ) (ws : List ℕ) (end : Run) : Type 0 where
-  -- it has ended after one call more than the history has bytes, and one for each quarter-hour where it asks for
-  -- the summary, if not before
+  -- it has ended after more calls than the history has bytes, and 96 more where it asks for the summary, if
+  -- not before
   pub ends : length s + quartersAsked s < n → end .ended ≡ true
   -- and then all that was written is the output of the history, and its clock and summary are those that the
   -- history leaves

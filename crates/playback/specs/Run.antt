@@ -21,8 +21,8 @@ use Rattle.playback.specs.declared.run.Run.{Run}
 abbrev pub longestHistory : ℕ
 longestHistory = 65536
 
--- "from a fresh clock"; document 02: "replay and refused record readings use kind 0"; "It starts with all cells
--- zero"
+-- "from a fresh clock"; document 02: "replay and refused record readings use kind 0"; "It starts with all
+-- cells zero"
 abbrev pub startOfRun : Run
 startOfRun = record { clock = freshClock kind256; place = 0; quarter = 0; ended = false; summary = emptySummary }
 
@@ -57,8 +57,9 @@ abbrev pub stepAt : Run → Found → Advanced
 stepAt r (found e next) = record { run = past r e next; line = lineOf (r .clock) e }
 stepAt r (refused n) = record { run = endOf r; line = logLine n (r .place) }
 
--- The end of the bytes ends the run. Document 02, Req 08: the summary is printed "after the last event .. when
--- the first history event is the new code 4 ..: one line .. for each quarter-hour .., in order", each by a step.
+-- The end of the bytes ends the run. Document 02, Req 08: the summary is printed "after the last event ..
+-- when the first history event is the new code 4 ..: one line .. for each quarter-hour .., in order", each by
+-- a step.
 unfoldable pub stepAtEnd : List ℕ → Run → Advanced
 stepAtEnd s r =
     cond (asksSummary s && ltb (r .quarter) quarters)

@@ -1,6 +1,6 @@
--- The summary of a history, and the lines that are printed of it. Document 02, Req 08: "After any history it must
--- equal the summary worked out afresh from that history. .. The replay program prints it after the last event (not
--- if a `log` line ended the run) when the first history event is the new code 4".
+-- The summary of a history, and the lines that are printed of it. Document 02, Req 08: "After any history it
+-- must equal the summary worked out afresh from that history. .. The replay program prints it after the last
+-- event (not if a `log` line ended the run) when the first history event is the new code 4".
 use mathlib.Core.Path.{_≡_}
 use mathlib.Core.Bool.{false, cond}
 use mathlib.Core.List.{List, [], _++_}
@@ -8,6 +8,7 @@ use Prim.Native.Nat.{ℕ, zero, suc, _<_, _≤_}
 use lib.ListN.{length}
 use Rattle.state.specs.Device.{kind256}
 use Rattle.state.specs.State.{freshClock}
+use Rattle.state.specs.Refusal.{refusedBeyond}
 use Rattle.history.specs.Event.{refused, eventAt, asksSummary}
 use Rattle.event.specs.declared.event.Event as call
 use Rattle.summary.specs.Summary.{quarters}
@@ -64,6 +65,17 @@ pub record SummaryOfHistory (x : Keeper) (s : List ℕ) : Type 0 where
   -- after `log` nothing does
   pub logged : (k n : ℕ) → Undecodable s k n
       → x .played s .output ≡ linesOf k s startOfRun ++ logLine n (runAfter k s startOfRun .place)
+  -- and of a history that is too long that line is all
+  pub beyond : longestHistory < length s → x .played s .output ≡ logLine refusedBeyond longestHistory
 
 abbrev pub SummaryOfEveryHistory : Type 0
 SummaryOfEveryHistory = (s : List ℕ) → SummaryOfHistory keeper s
+
+-- every history comes to one of these three, so that one of the three fields above says what it prints
+pub data Comes (s : List ℕ) : Type 0 where
+  tooLong : longestHistory < length s → Comes s
+  done : (k : ℕ) → EventsDone s k → Comes s
+  stops : (k n : ℕ) → Undecodable s k n → Comes s
+
+abbrev pub EveryHistoryComes : Type 0
+EveryHistoryComes = (s : List ℕ) → Comes s

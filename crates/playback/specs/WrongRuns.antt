@@ -13,7 +13,7 @@ use Rattle.event.specs.declared.event.Call.the-variants.{Reading}
 use Rattle.history.specs.declared.Event.the-variants.{Call}
 use Rattle.summary.specs.Summary.{emptySummary, withOffset}
 use Rattle.summary.specs.declared.cells.Summary.{Summary}
-use Rattle.playback.specs.Run.{startOfRun, endOf, past}
+use Rattle.playback.specs.Run.{startOfRun, endOf, past, replayOf}
 use Rattle.playback.specs.Filling.{Fills}
 use Rattle.playback.specs.Repeated.{Replays}
 use Rattle.playback.specs.declared.run.Run.{Run}
@@ -37,6 +37,21 @@ atEnd = endOf afterPrint
 -- a run that has ended there with another clock or another summary
 abbrev pub left : Clock → Summary → Run
 left c m = record { clock = c; place = 1; ended = true; quarter = 0; summary = m }
+
+-- a history that asks for the summary of nothing, and where its run stands before its last step
+abbrev pub asking : List ℕ
+asking = 0x04 ∷ []
+
+abbrev pub listed : Run
+listed = record { clock = freshClock kind256; place = 1; ended = false; quarter = 96; summary = emptySummary }
+
+-- one that asks for that of an offset of 1 us, and where its run has ended
+abbrev pub asked : List ℕ
+asked = 0x04 ∷ 0x02 ∷ 0x01 ∷ 0x02 ∷ []
+
+abbrev pub askedEnd : Run
+askedEnd =
+    record { clock = replayOf asked .clock; place = 4; ended = true; quarter = 96; summary = replayOf asked .summary }
 
 -- a lent buffer of n bytes
 abbrev pub blank : ℕ → List ℕ
@@ -68,7 +83,8 @@ pub record WrongFills : Type 0 where
   -- it tells more bytes than the buffer has
   pub overrun : Fills onePrint startOfRun (blank 30) itsLine (answer 0 afterPrint 31) → ⊥
 
--- What two calls with room for a line each may not come to: one more than the history has bytes.
+-- What calls with room for a line each may not come to: two of them over one print, one more than it has bytes;
+-- and 98 that are asked for the summary.
 pub record WrongRepeats : Type 0 where
   -- the run has not ended
   pub endless : Replays onePrint 2 itsLine afterPrint → ⊥
@@ -76,5 +92,9 @@ pub record WrongRepeats : Type 0 where
   pub silent : Replays onePrint 2 [] atEnd → ⊥
   -- the clock is none that the history leaves
   pub elsewhere : Replays onePrint 2 itsLine (left (freshClock kind1024) emptySummary) → ⊥
+  -- the run has not ended, though it has had a call for each quarter-hour
+  pub endlessAsked : Replays asking 98 [] listed → ⊥
+  -- no line of the summary was written
+  pub silentAsked : Replays asked 0 [] askedEnd → ⊥
   -- the summary is none that the history leaves
   pub counted : Replays onePrint 2 itsLine (left (freshClock kind256) (withOffset 0 0 emptySummary)) → ⊥

@@ -50,8 +50,8 @@ pub fn run_limits() -> RunLimits
     }
 }
 
-// Where a run stands: its clock; the place of the next event; whether it has ended; the next quarter-hour whose
-// line is printed, where the history asks for the summary; and the summary of the events so far.
+// Where a run stands: its clock; the place of the next event; whether it has ended; the next quarter-hour
+// whose line is printed, where the history asks for the summary; and the summary of the events so far.
 pub struct Run {
     pub clock: Clock,
     pub place: usize,
