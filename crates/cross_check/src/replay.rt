@@ -1,5 +1,5 @@
-// Document 01's replay, with document 02's summary, a second time: an event is a row of numbers, read by masks,
-// and its line a pattern filled from the last digit on.
+// Document 01's replay, with document 02's summary, a second time: an event is a row of numbers, read by
+// masks, and its line a pattern filled from the last digit on.
 use crate::dates::PRINT;
 use crate::dates::clock_stamp;
 use crate::dates::filled;

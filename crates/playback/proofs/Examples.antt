@@ -6,6 +6,7 @@ use Rattle.state.specs.State.{inRange}
 use Rattle.clock.specs.Rollover.{rolledOver}
 use Rattle.clock.specs.Tick.{unitIn, ticked, tickRefusal, tickOf}
 use Rattle.clock.specs.Reading.{readingRefusal, toldOf}
+use Rattle.clock.specs.Setting.{settingRefusal, settingOf}
 use Rattle.request.specs.Request.{requestRefusal, requestOf}
 use Rattle.number.specs.Reading.{leadingMore, valueOf, judged, numberAt}
 use Rattle.number.specs.Sequence.{then}
@@ -22,7 +23,7 @@ use Rattle.playback.proofs.Apart.{length-apart}
 
 pub examples : Examples outputOf
 unfolding deviceOf dateOf inRange rolledOver unitIn ticked tickRefusal tickOf ranOf ticksOf
-    readingRefusal toldOf requestRefusal requestOf labelOf
+    readingRefusal toldOf settingRefusal settingOf requestRefusal requestOf labelOf
     leadingMore valueOf judged numberAt then unmapped fieldAt ticksAt settingAt requestAt summaryAt argumentsAt eventAt
     decimalFrom decimal refusedLine logLine printLine quarterLine cellLine withOffset outcomeOf printedBy printed lineOf summaryAfter
     stepAtEnd step runAfter linesOf replayOf

@@ -83,7 +83,8 @@ module _ (s : List ℕ) where
         }
 
 module _ (s : List ℕ) (run : Run) (buf : List ℕ) where
-  -- what was made in a whole buffer, where it stopped: the run has ended, or there is no room for one more line
+  -- what was made in a whole buffer, where it stopped: the run has ended, or there is no room for one
+  -- more line
   pub made-all : {out : List ℕ} {now : Run} {n : ℕ} {r : Filling} → run .ended ≡ false → longestLine ≤ length buf
       → Made s run buf 0 out now n → (now .ended ≡ true) ⊎ (length buf < n + longestLine)
       → r ≡ record { refusal = 0; run = now; length = n } → Fills s run buf out r

@@ -1,5 +1,5 @@
--- The summary of a run is the one worked out afresh from the calls of its history, and its lines follow those of
--- the events.
+-- The summary of a run is the one worked out afresh from the calls of its history, and its lines follow
+-- those of the events.
 use mathlib.Core.Path.{_≡_, refl, sym, _∙_, ap}
 use mathlib.Core.Bool.{Bool, true, false, cond, _&&_}
 use mathlib.Core.List.{List, [], _++_, append-nil}

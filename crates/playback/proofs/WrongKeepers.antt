@@ -1,4 +1,5 @@
--- The wrong replays do not meet the statement on the summary of a history: each fails one field of it, computed.
+-- The wrong replays do not meet the statement on the summary of a history: each fails one field of it,
+-- computed.
 use mathlib.Core.Path.{_≡_, refl, sym, _∙_, ap}
 use mathlib.Core.Bool.{false, cond}
 use mathlib.Core.List.{List, []}

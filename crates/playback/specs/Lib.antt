@@ -1,5 +1,6 @@
--- A run over a history. Read Lines, Event, Run, then Filling; Repeated and Calls state what they come to,
--- WrongRuns, WrongReplays and Examples what they shut out, Limits where their numbers end.
+-- A run over a history. Read Lines, Event, Run, then Filling; Repeated, Calls and Summaries state what they
+-- come to, WrongRuns, WrongReplays, WrongKeepers and Examples what they shut out, Limits where their numbers
+-- end.
 pub mod Lines
 pub mod Event
 pub mod Run

@@ -1,5 +1,5 @@
--- Replays that the statement on the summary of a history shuts out, each at one history and by the field that it
--- stands for.
+-- Replays that the statement on the summary of a history shuts out, each at one history and by the field
+-- that it stands for.
 use mathlib.Core.Bool.{cond}
 use mathlib.Core.List.{List, [], _∷_, _++_}
 use Prim.Native.Nat.{ℕ}

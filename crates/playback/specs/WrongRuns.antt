@@ -1,6 +1,6 @@
 -- Answers that the statements about runs shut out, each at a short history: what a call of `fill` may not
--- answer, what repeated calls may not come to. Each is named for the field that it breaks; a few break a second
--- one with it.
+-- answer, what repeated calls may not come to. Each is named for the field that it breaks; a few break a
+-- second one with it.
 use mathlib.Core.Bool.{true, false}
 use mathlib.Core.List.{List, [], _∷_, _++_}
 use Prim.Native.Nat.{ℕ, _<_}
@@ -83,8 +83,8 @@ pub record WrongFills : Type 0 where
   -- it tells more bytes than the buffer has
   pub overrun : Fills onePrint startOfRun (blank 30) itsLine (answer 0 afterPrint 31) → ⊥
 
--- What calls with room for a line each may not come to: two of them over one print, one more than it has bytes;
--- and 98 that are asked for the summary.
+-- What calls with room for a line each may not come to: two of them over one print, one more than it has
+-- bytes; and 98 that are asked for the summary.
 pub record WrongRepeats : Type 0 where
   -- the run has not ended
   pub endless : Replays onePrint 2 itsLine afterPrint → ⊥

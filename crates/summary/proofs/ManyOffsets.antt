@@ -58,8 +58,8 @@ unfolding largestAfter
 no-larger f g h zero n a s = s
 no-larger f g h (suc k) n a s = no-larger f g h k (f n) (g n a) (h n a s)
 
--- on the clock c, which it leaves as it was, an offset of 5 us moves the count n to f n, and the largest size a
--- to g n a
+-- on the clock c, which it leaves as it was, an offset of 5 us moves the count n to f n, and the largest
+-- size a to g n a
 pub record Grows (moves : Moves) (c : Clock) (f : ℕ → ℕ) (g : ℕ → ℕ → ℕ) : Type 0 where
   pub grows : (es : List Event) (n a : ℕ)
       → carriedBy moves c (onceMore 5 es) (first n a) ≡ carriedBy moves c es (first (f n) (g n a))

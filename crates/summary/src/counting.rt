@@ -63,7 +63,7 @@ fn count_event(
     }
 }
 
-// An event on a clock, and a summary moved with it whose arrays are lent: what it costs does not grow with them.
+// An event on a clock, and a summary moved with it whose arrays are lent: none of them is copied.
 pub fn step_in_place(
     c: Clock,
     e: Event,

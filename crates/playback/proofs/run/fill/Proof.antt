@@ -1,5 +1,5 @@
--- `playback::fill` meets its contract: a run that has ended, a buffer that is too short, a history that is too long;
--- else it goes on.
+-- `playback::fill` meets its contract: a run that has ended, a buffer that is too short, a history that
+-- is too long; else it goes on.
 use mathlib.Core.Path.{refl}
 use mathlib.Core.Logic.{inl}
 use native.Mathlib.Omega.{arith}

@@ -1,4 +1,5 @@
--- `playback::go_on` meets its contract: the run's events; and at the end of the bytes the end, or the summary.
+-- `playback::go_on` meets its contract: the run's events; and at the end of the bytes the end, or the
+-- summary.
 use mathlib.Core.Path.{_≡_, refl, sym, _∙_}
 use mathlib.Core.Bool.{true, false, not}
 use Prim.Native.Nat.{_+_, _-_}

@@ -1,6 +1,6 @@
--- `playback::put_quarters` meets its contract. The loop's invariant: the lines of the quarter-hours before the next
--- one are in the buffer, as those of so many steps of any run that has come to the end of its bytes. The measure is
--- the number of quarter-hours that are left.
+-- `playback::put_quarters` meets its contract. The loop's invariant: the lines of the quarter-hours
+-- before the next one are in the buffer, as those of so many steps of any run that has come to the end of
+-- its bytes. The measure is the number of quarter-hours that are left.
 use mathlib.Core.Path.{_≡_, refl, _∙_}
 use mathlib.Core.List.{List}
 use Prim.Native.Nat.{ℕ, suc, _+_, _-_, _<_, _≤_}

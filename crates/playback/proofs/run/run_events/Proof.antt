@@ -1,5 +1,5 @@
--- `playback::run_events` meets its contract. The loop's invariant: the events so far are steps of the run, and the
--- buffer has their lines. The measure is what is left to run.
+-- `playback::run_events` meets its contract. The loop's invariant: the events so far are steps of the
+-- run, and the buffer has their lines. The measure is what is left to run.
 use mathlib.Core.Path.{_≡_}
 use mathlib.Core.Bool.{not, _&&_}
 use Prim.Native.Nat.{_+_, _≤_}
