@@ -480,7 +480,7 @@ fn same_call(before: Replayed, mine: Replayed, room: usize, f: Filling) -> bool 
     let moved = (before.place < mine.place) | (before.quarter < mine.quarter) | mine.over;
     let mut same = same_byte(refusal, f.refusal) & (moved == (refusal == 0));
     same = same & (f.length as u64 == minus(mine.size as u64, before.size as u64));
-    same = same & (mine.over | (room < f.length % 64 + 30));
+    same = same & (mine.over | (room < f.length % 65 + 30));
     same & same_run(mine, f.run)
 }
 

@@ -38,7 +38,7 @@ const TOLD: u64 = 5;
 const ANSWERS: usize = 18;
 
 // The cases that are owed, of all groups together.
-const OWED: u64 = 1080583;
+const OWED: u64 = 1090583;
 
 // The fewest offsets of all lists that are accepted where there was an earlier one, whose gain is what the
 // interval moves; and the fewest cases that whole units decide, in either direction.
@@ -98,7 +98,7 @@ fn cases_of(group: u64) -> u64 {
         19 => 40000,
         20 => 40000,
         21 => 30000,
-        22 => 30000,
+        22 => 40000,
         _ => 16,
     }
 }

@@ -1,5 +1,5 @@
-// Document 01's replay, with document 02's summary, a second time: an event is a row of numbers, read by
-// masks, and its line a pattern filled from the last digit on.
+// Document 01's replay with document 02's summary, a second time: an event is a row of numbers, read by
+// masks, and a line a pattern filled from the last digit on.
 use crate::dates::PRINT;
 use crate::dates::clock_stamp;
 use crate::dates::filled;
@@ -113,7 +113,7 @@ fn quarter_line(quarter: u64, q: Quarter) -> Line {
     }
 }
 
-// The bytes of output that there is room for: the lines of 48 events, and those of all quarter-hours.
+// The bytes of output that there is room for: 64 events and 96 quarter-hours print no more than 3,840.
 pub(crate) const OUTPUT: usize = 4096;
 
 // Puts a line behind the `at` bytes of the output, and gives the place after it. A zero leads where no other
@@ -251,9 +251,8 @@ fn advanced(r: Replayed, bytes: &[u8; 64], out: &mut [u8; OUTPUT]) -> Replayed {
     }
 }
 
-// The most steps of a run: a history of up to 64 bytes has no more than 64 events, may be cut, and after its
-// quarter-hours comes to its end.
-pub(crate) const STEPS: u64 = 164;
+// The most steps of a run over up to 64 bytes: 64 events, a cut, 96 quarter-hours and the end.
+pub(crate) const STEPS: u64 = 162;
 
 // A run after the events before `place` and the lines of the quarter-hours before `quarter`, or after its
 // end.

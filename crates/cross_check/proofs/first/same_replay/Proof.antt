@@ -1,4 +1,4 @@
--- `cross_check::first::same_replay` ends: at most 164 turns; and the part that is lent is as long as it says.
+-- `cross_check::first::same_replay` ends: at most 162 turns; and the part that is lent is as long as it says.
 use Prim.Native.Nat.{_≤_}
 use native.Mathlib.Omega.{arith}
 use lib.ListN.{length-take}
@@ -7,7 +7,7 @@ use Rattle.cross_check.proofs.first.same_replay.Statement.{statement}
 use Rattle.cross_check.proofs.first.same_replay.Tie as tie
 
 abbrev Inv-loop : tie.InvT-loop
-Inv-loop bytes from room head out₀ mine₀ run₀ same₀ left₀ out mine run same left = left ≤ 164
+Inv-loop bytes from room head out₀ mine₀ run₀ same₀ left₀ out mine run same left = left ≤ 162
 
 abbrev μ-loop : tie.MeasureT-loop
 μ-loop bytes from room head out₀ mine₀ run₀ same₀ left₀ out mine run same left = left

@@ -1,11 +1,11 @@
--- `cross_check::replay::caught_up` ends: one turn for each step, and no more than 164.
+-- `cross_check::replay::caught_up` ends: one turn for each step, and no more than 162.
 use Prim.Native.Nat.{_≤_}
 use borrow.Author.Needs.{needs}
 use Rattle.cross_check.proofs.replay.caught_up.Statement.{statement}
 use Rattle.cross_check.proofs.replay.caught_up.Tie as tie
 
 abbrev Inv-loop : tie.InvT-loop
-Inv-loop place quarter end bytes out₀ r₀ left₀ out r left = left ≤ 164
+Inv-loop place quarter end bytes out₀ r₀ left₀ out r left = left ≤ 162
 
 abbrev μ-loop : tie.MeasureT-loop
 μ-loop place quarter end bytes out₀ r₀ left₀ out r left = left
