@@ -41,7 +41,7 @@ if [ "$1" = must-fail ]; then
     exit 1
 fi
 case $(cat "$crate/src/lib.rt") in
-*wait*) : >"$LIAR/ready"; (trap ': >"$LIAR/heard"; exit 1' TERM; sleep 30 & wait) ;;
+*wait*) (trap ': >"$LIAR/heard"; exit 1' TERM; : >"$LIAR/ready"; sleep 30 & wait) ;;
 *wrong*) echo "$crate/proofs/Law.antt:3:7: error: it does not follow"; echo logic=not-proved; exit 1 ;;
 *unread*) echo "$crate/specs/Said.antt:2:5: error: \`x\` is not in scope"; echo logic=not-proved; exit 1 ;;
 *uncoded*) echo "$crate/src/lib.rt:2:5: error: it is no code"; echo logic=not-proved; exit 1 ;;
