@@ -14,9 +14,16 @@ use Rattle.event.specs.declared.event.Event.the-variants.{Call}
 use Rattle.cases.specs.Cases.{asks, set}
 use Rattle.summary.specs.Summary.{emptySummary, afterEvent}
 use Rattle.summary.specs.Afresh.{Moves, carriedBy, CarriedIsAfresh}
-use Rattle.summary.specs.WrongSummaries.{countIn, largestIn}
+use Rattle.summary.specs.WrongSummaries.{holding}
 use Rattle.summary.specs.declared.cells.Summary.{Summary}
 use Rattle.summary.proofs.Carried.{carried-is-afresh}
+
+-- the count, and the largest size (us), of a quarter-hour
+abbrev pub countIn : ℕ → Summary → ℕ
+countIn q m = list.getD (m .counts) q 0
+
+abbrev pub largestIn : ℕ → Summary → ℕ
+largestIn q m = list.getD (m .largest) q 0
 
 -- an offset (us) after a setting, so that it does not come too soon
 abbrev pub onceMore : ℕ → List Event → List Event
@@ -26,11 +33,6 @@ onceMore size es = Call (set 0 0) ∷ Call (asks (pos size)) ∷ es
 offsets : ℕ → List Event → List Event
 offsets zero es = es
 offsets (suc n) es = onceMore 5 (offsets n es)
-
--- a summary of which the first quarter-hour has a count and a largest size, and the others nothing
-abbrev pub first : ℕ → ℕ → Summary
-first n a =
-    record { counts = list.set (emptySummary .counts) 0 n; largest = list.set (emptySummary .largest) 0 a }
 
 -- what so many make of a count by f, and of a largest size by g
 countAfter : (ℕ → ℕ) → ℕ → ℕ → ℕ
@@ -62,12 +64,12 @@ no-larger f g h (suc k) n a s = no-larger f g h k (f n) (g n a) (h n a s)
 -- size a to g n a
 pub record Grows (moves : Moves) (c : Clock) (f : ℕ → ℕ) (g : ℕ → ℕ → ℕ) : Type 0 where
   pub grows : (es : List Event) (n a : ℕ)
-      → carriedBy moves c (onceMore 5 es) (first n a) ≡ carriedBy moves c es (first (f n) (g n a))
+      → carriedBy moves c (onceMore 5 es) (holding 0 n a) ≡ carriedBy moves c es (holding 0 (f n) (g n a))
 
 module _ {moves : Moves} {c : Clock} {f : ℕ → ℕ} {g : ℕ → ℕ → ℕ} (w : Grows moves c f g) where
   many : (k : ℕ) (es : List Event) (n a : ℕ)
-      → carriedBy moves c (offsets k es) (first n a)
-      ≡ carriedBy moves c es (first (countAfter f k n) (largestAfter f g k n a))
+      → carriedBy moves c (offsets k es) (holding 0 n a)
+      ≡ carriedBy moves c es (holding 0 (countAfter f k n) (largestAfter f g k n a))
   unfolding offsets countAfter largestAfter
   many zero es n a = refl
   many (suc k) es n a = w .grows (offsets k es) n a ∙ many k es (f n) (g n a)
@@ -103,7 +105,7 @@ module _ {moves : Moves} {c : Clock} (rules : RulesGrow c) where
 
 -- the largest size after 65,535 of 5 us and one of 7 us
 abbrev pub LastOf : Moves → Clock → ℕ → ℕ → Type 0
-LastOf moves c a b = largestIn 0 (carriedBy moves c (onceMore 7 []) (first 65535 a)) ≡ b
+LastOf moves c a b = largestIn 0 (carriedBy moves c (onceMore 7 []) (holding 0 65535 a)) ≡ b
 
 abbrev larger : ℕ → ℕ → ℕ
 larger n a = cond (ltb n 65535) (max a 5) a

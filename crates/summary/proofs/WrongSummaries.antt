@@ -22,16 +22,17 @@ use Rattle.summary.specs.Summary.{emptySummary, withOffset}
 use Rattle.summary.specs.Afresh.{takenAmong, sizesIn, largestOf, listOf, afresh, Moves, carriedBy}
 use Rattle.summary.specs.WrongSummaries.{at, WrongAt, WrongSummaries}
 use Rattle.summary.specs.declared.cells.Summary.{Summary}
-use Rattle.summary.proofs.ManyOffsets.{onceMore, limit-is, wraps-not, stops-not}
+use Rattle.summary.proofs.ManyOffsets.{countIn, largestIn, onceMore, limit-is, wraps-not, stops-not}
 
-module _ {wrong : Moves} {c : Clock} {events : List Event} {number : Summary → ℕ} {m n : ℕ} where
-  wrong-at : number (carriedBy wrong c events emptySummary) ≡ m → number (afresh (takenAmong c events)) ≡ n
-      → eqb m n ≡ false → WrongAt wrong c events number m n
-  wrong-at e f h =
+-- one that has another number there is none that keeps the theorem
+module _ {wrong : Moves} {c : Clock} {events : List Event} {m n : Summary} where
+  wrong-at : (number : Summary → ℕ) → carriedBy wrong c events emptySummary ≡ m → afresh (takenAmong c events) ≡ n
+      → eqb (number m) (number n) ≡ false → WrongAt wrong c events m n
+  wrong-at number e f h =
       record {
         carriedThere = e;
         afreshThere = f;
-        shutOut = λ d. eqb-false m n h (sym e ∙ ap number (d c events) ∙ f);
+        shutOut = λ d. eqb-false (number m) (number n) h (ap number (sym e ∙ d c events ∙ f));
       }
 
 -- a clock that an offset after a setting leaves as it was
@@ -44,22 +45,23 @@ unfolding deviceOf inRange toldOf readingRefusal rolledOver unitIn ticked tickRe
     sizesIn largestOf listOf afresh carriedBy
 wrong-summaries = (
   record {
-    nothing = wrong-at refl refl refl;
-    refused = wrong-at refl refl refl;
-    others = wrong-at refl refl refl;
-    zero = wrong-at refl refl refl;
-    noon = wrong-at refl refl refl;
-    day = wrong-at refl refl refl;
-    tick = wrong-at refl refl refl;
-    sixty = wrong-at refl refl refl;
-    value = wrong-at refl refl refl;
-    last = wrong-at refl refl refl;
-    first = wrong-at refl refl refl;
-    setting = wrong-at refl refl refl;
-    ticked = wrong-at refl refl refl;
-    caughtUp = wrong-at refl refl refl;
-    read = wrong-at refl refl refl;
-    refusing = wrong-at refl refl refl;
+    nothing = wrong-at (countIn 0) refl refl refl;
+    refused = wrong-at (countIn 0) refl refl refl;
+    others = wrong-at (countIn 0) refl refl refl;
+    zero = wrong-at (countIn 0) refl refl refl;
+    noon = wrong-at (countIn 0) refl refl refl;
+    day = wrong-at (countIn 0) refl refl refl;
+    nextTick = wrong-at (countIn 0) refl refl refl;
+    sixty = wrong-at (countIn 0) refl refl refl;
+    value = wrong-at (largestIn 0) refl refl refl;
+    last = wrong-at (largestIn 0) refl refl refl;
+    first = wrong-at (largestIn 0) refl refl refl;
+    bySetting = wrong-at (countIn 0) refl refl refl;
+    byTick = wrong-at (countIn 0) refl refl refl;
+    byCatchUp = wrong-at (countIn 0) refl refl refl;
+    byReading = wrong-at (countIn 0) refl refl refl;
+    byOther = wrong-at (countIn 0) refl refl refl;
+    byRefused = wrong-at (countIn 0) refl refl refl;
     limit = λ n. limit-is {c = steady kind256} (record { grows = λ es n a. refl }) (record { grows = λ es n a. refl });
     wrapping = wraps-not {c = steady kind256} (record { grows = λ es n a. refl }) (record { grows = λ es n a. refl });
     stopping =
@@ -68,22 +70,23 @@ wrong-summaries = (
         (λ a. refl);
   },
   record {
-    nothing = wrong-at refl refl refl;
-    refused = wrong-at refl refl refl;
-    others = wrong-at refl refl refl;
-    zero = wrong-at refl refl refl;
-    noon = wrong-at refl refl refl;
-    day = wrong-at refl refl refl;
-    tick = wrong-at refl refl refl;
-    sixty = wrong-at refl refl refl;
-    value = wrong-at refl refl refl;
-    last = wrong-at refl refl refl;
-    first = wrong-at refl refl refl;
-    setting = wrong-at refl refl refl;
-    ticked = wrong-at refl refl refl;
-    caughtUp = wrong-at refl refl refl;
-    read = wrong-at refl refl refl;
-    refusing = wrong-at refl refl refl;
+    nothing = wrong-at (countIn 0) refl refl refl;
+    refused = wrong-at (countIn 0) refl refl refl;
+    others = wrong-at (countIn 0) refl refl refl;
+    zero = wrong-at (countIn 0) refl refl refl;
+    noon = wrong-at (countIn 0) refl refl refl;
+    day = wrong-at (countIn 0) refl refl refl;
+    nextTick = wrong-at (countIn 0) refl refl refl;
+    sixty = wrong-at (countIn 0) refl refl refl;
+    value = wrong-at (largestIn 0) refl refl refl;
+    last = wrong-at (largestIn 0) refl refl refl;
+    first = wrong-at (largestIn 0) refl refl refl;
+    bySetting = wrong-at (countIn 0) refl refl refl;
+    byTick = wrong-at (countIn 0) refl refl refl;
+    byCatchUp = wrong-at (countIn 0) refl refl refl;
+    byReading = wrong-at (countIn 0) refl refl refl;
+    byOther = wrong-at (countIn 0) refl refl refl;
+    byRefused = wrong-at (countIn 0) refl refl refl;
     limit = λ n. limit-is {c = steady kind1024} (record { grows = λ es n a. refl }) (record { grows = λ es n a. refl });
     wrapping = wraps-not {c = steady kind1024} (record { grows = λ es n a. refl }) (record { grows = λ es n a. refl });
     stopping =

@@ -1,14 +1,7 @@
 -- The numbers of a summary at their edges: where a quarter-hour ends, and where a count stops.
 use mathlib.Core.Path.{_≡_}
-use Prim.Native.Nat.{ℕ}
-use lib.ListN.{set}
 use Rattle.summary.specs.Summary.{quarterOf, emptySummary, withOffset}
-use Rattle.summary.specs.declared.cells.Summary.{Summary}
-
--- a summary that holds a count and a largest size (us) in quarter-hour 7, and nothing in the others
-abbrev pub holding : ℕ → ℕ → Summary
-holding count size =
-    record { counts = set (emptySummary .counts) 7 count; largest = set (emptySummary .largest) 7 size }
+use Rattle.summary.specs.WrongSummaries.{holding}
 
 pub record SummaryEdges : Type 0 where
   pub midnight : quarterOf 0 ≡ 0
@@ -18,7 +11,7 @@ pub record SummaryEdges : Type 0 where
   pub dayBegins : quarterOf 86400 ≡ 0
   -- 7 February 2106, 06:28:15
   pub lastSecond : quarterOf 4294967295 ≡ 25
-  pub firstOffset : withOffset 7 5 emptySummary ≡ holding 1 5
-  pub stops : withOffset 7 5 (holding 65534 3) ≡ holding 65535 5
-  pub stays : withOffset 7 5 (holding 65535 3) ≡ holding 65535 5
-  pub largestStays : withOffset 7 3 (holding 65535 5) ≡ holding 65535 5
+  pub firstOffset : withOffset 7 5 emptySummary ≡ holding 7 1 5
+  pub stops : withOffset 7 5 (holding 7 65534 3) ≡ holding 7 65535 5
+  pub stays : withOffset 7 5 (holding 7 65535 3) ≡ holding 7 65535 5
+  pub largestStays : withOffset 7 3 (holding 7 65535 5) ≡ holding 7 65535 5

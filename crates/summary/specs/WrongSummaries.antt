@@ -20,7 +20,7 @@ use Rattle.event.specs.declared.event.Event.the-variants.{Call, CatchUp}
 use Rattle.cases.specs.Cases.{given, _≔_, asks, asksNothing}
 use Rattle.cases.specs.Cases as case
 use Rattle.bounds.specs.Calls.{accepted, takesOffset}
-use Rattle.summary.specs.Summary.{secondsPerQuarter, quarterOf, emptySummary, withOffset, afterEvent}
+use Rattle.summary.specs.Summary.{secondsPerQuarter, quarterOf, emptySummary, greatestCount, withOffset, afterEvent}
 use Rattle.summary.specs.Afresh.{takenAmong, afresh, Moves, carriedBy, CarriedIsAfresh}
 use Rattle.summary.specs.declared.cells.Summary.{Summary}
 
@@ -104,6 +104,10 @@ growsBy f g =
       largest = set (m .largest) q (g n (getD (m .largest) q 0) (natAbs (r .offset .0)));
     })
 
+-- one more, by the rules
+abbrev pub oneMore : ℕ → ℕ
+oneMore n = min greatestCount (n + 1)
+
 -- "Counts stop" at another number
 abbrev pub stopsAt : ℕ → Moves
 stopsAt limit = growsBy (λ n. min limit (n + 1)) (λ n a b. max a b)
@@ -114,14 +118,14 @@ wraps = growsBy (λ n. (n + 1) % 65536) (λ n a b. max a b)
 
 -- the largest size stops where the count has stopped
 abbrev pub largestStops : Moves
-largestStops = growsBy (λ n. min 65535 (n + 1)) (λ n a b. cond (ltb n 65535) (max a b) a)
+largestStops = growsBy oneMore (λ n a b. cond (ltb n greatestCount) (max a b) a)
 
 -- the last size, and the first, in place of the largest
 abbrev pub keepsLast : Moves
-keepsLast = growsBy (λ n. min 65535 (n + 1)) (λ n a b. b)
+keepsLast = growsBy oneMore (λ n a b. b)
 
 abbrev pub keepsFirst : Moves
-keepsFirst = growsBy (λ n. min 65535 (n + 1)) (λ n a b. cond (eqb n 0) b a)
+keepsFirst = growsBy oneMore (λ n a b. cond (eqb n 0) b a)
 
 -- a request that takes no offset clears the summary
 abbrev pub othersClear : Moves
@@ -148,57 +152,103 @@ atEndOf kind s = given (case.kind ≔ kind ∷ case.seconds ≔ s ∷ case.micro
 abbrev pub inserted : ℕ → Clock
 inserted kind = given (case.kind ≔ kind ∷ case.seconds ≔ 86399 ∷ case.status ≔ statusOop ∷ [])
 
--- an offset (us); one and then another event; one and another, with a setting between them, so that the other
--- does not come too soon
+-- offsets (us): one; one after another, with a setting to a second between them, so that it does not come too
+-- soon
 abbrev pub offset : ℤ → List Event
 offset z = Call (asks z) ∷ []
 
-abbrev pub andThen : Event → List Event
-andThen e = Call (asks (pos 5)) ∷ e ∷ []
+abbrev pub twoOffsets : ℤ → ℕ → ℤ → List Event
+twoOffsets y s z = Call (asks y) ∷ Call (case.set s 0) ∷ Call (asks z) ∷ []
 
-abbrev pub twoOffsets : ℤ → ℤ → List Event
-twoOffsets y z = Call (asks y) ∷ Call (case.set 0 0) ∷ Call (asks z) ∷ []
+-- events of each sort that take no offset: the last asks for one too soon
+abbrev pub tick : Event
+tick = Call Tick
 
--- the count, and the largest size (us), of a quarter-hour
-abbrev pub countIn : ℕ → Summary → ℕ
-countIn q m = getD (m .counts) q 0
+abbrev pub setting : Event
+setting = Call (case.set 0 0)
 
-abbrev pub largestIn : ℕ → Summary → ℕ
-largestIn q m = getD (m .largest) q 0
+abbrev pub reading : Event
+reading = Call Reading
 
--- a number of the summary that is carried along these events, and of the one that is worked out afresh
-pub record WrongAt (wrong : Moves) (c : Clock) (events : List Event) (number : Summary → ℕ)
-    (wrongly rightly : ℕ) : Type 0 where
-  pub carriedThere : number (carriedBy wrong c events emptySummary) ≡ wrongly
-  pub afreshThere : number (afresh (takenAmong c events)) ≡ rightly
+abbrev pub catchUp : Event
+catchUp = CatchUp 3 false
+
+abbrev pub none : Event
+none = Call asksNothing
+
+abbrev pub tooSoon : Event
+tooSoon = Call (asks (pos 9))
+
+-- an event between two offsets, and others after them
+abbrev pub between : Event → List Event → List Event
+between e others = Call (asks (pos 7)) ∷ e ∷ setting ∷ Call (asks (pos 5)) ∷ others
+
+-- a summary with this count and this largest size (us) in a quarter-hour
+abbrev pub cell : ℕ → ℕ → ℕ → Summary → Summary
+cell q count size m = record { counts = set (m .counts) q count; largest = set (m .largest) q size }
+
+-- .. and nothing in the others
+abbrev pub holding : ℕ → ℕ → ℕ → Summary
+holding q count size = cell q count size emptySummary
+
+-- the summary that is carried along these events, and the one that is worked out afresh
+pub record WrongAt (wrong : Moves) (c : Clock) (events : List Event) (wrongly rightly : Summary) : Type 0 where
+  pub carriedThere : carriedBy wrong c events emptySummary ≡ wrongly
+  pub afreshThere : afresh (takenAmong c events) ≡ rightly
   pub shutOut : CarriedIsAfresh wrong → ⊥
 
+-- an event of a sort clears the summary: the first of two offsets is lost, and no other event clears it
+abbrev pub ClearedAt : ℕ → Moves → Event → List Event → Type 0
+ClearedAt kind wrong e others =
+    WrongAt (onKind kind wrong) (at kind 0) (between e others) (holding 0 1 5) (holding 0 2 7)
+
 pub record WrongSummariesOf (kind : ℕ) : Type 0 where
-  pub nothing : WrongAt (onKind kind countsNothing) (at kind 0) (offset (pos 5)) (countIn 0) 0 1
+  pub nothing : WrongAt (onKind kind countsNothing) (at kind 0) (offset (pos 5)) emptySummary (holding 0 1 5)
   pub refused :
-      WrongAt (onKind kind countsRefused) (at kind 0) (andThen (Call (asks (pos 7)))) (largestIn 0) 7 5
-  pub others : WrongAt (onKind kind countsOthers) (at kind 0) (andThen (Call asksNothing)) (countIn 0) 2 1
-  pub zero : WrongAt (onKind kind passesZero) (at kind 0) (offset (pos 0)) (countIn 0) 0 1
-  pub noon : WrongAt (onKind kind fromNoon) (at kind 43200) (offset (pos 5)) (countIn 48) 0 1
-  pub day : WrongAt (onKind kind pastTheDay) (at kind 86400) (offset (pos 5)) (countIn 0) 0 1
-  pub tick : WrongAt (onKind kind afterATick) (atEndOf kind 899) (offset (pos 5)) (countIn 0) 0 1
-  pub sixty : WrongAt (onKind kind sixtyNextDay) (inserted kind) (offset (pos 5)) (countIn 95) 0 1
+      WrongAt (onKind kind countsRefused) (at kind 0) (Call (asks (pos 5)) ∷ tooSoon ∷ none ∷ [])
+      (holding 0 2 9)
+      (holding 0 1 5)
+  pub others :
+      WrongAt (onKind kind countsOthers) (at kind 0) (Call (asks (pos 5)) ∷ none ∷ tooSoon ∷ [])
+      (holding 0 2 5)
+      (holding 0 1 5)
+  pub zero :
+      WrongAt (onKind kind passesZero) (at kind 0) (twoOffsets (pos 0) 0 (pos 5))
+      (holding 0 1 5)
+      (holding 0 2 5)
+  pub noon : WrongAt (onKind kind fromNoon) (at kind 899) (offset (pos 5)) (holding 48 1 5) (holding 0 1 5)
+  pub day :
+      WrongAt (onKind kind pastTheDay) (at kind 86400) (twoOffsets (pos 5) 900 (pos 7))
+      (holding 1 1 7)
+      (cell 0 1 5 (holding 1 1 7))
+  pub nextTick :
+      WrongAt (onKind kind afterATick) (atEndOf kind 899) (offset (pos 5)) (holding 1 1 5) (holding 0 1 5)
+  pub sixty :
+      WrongAt (onKind kind sixtyNextDay) (inserted kind) (twoOffsets (pos 5) 86399 (pos 7))
+      (cell 0 1 5 (holding 95 1 7))
+      (holding 95 2 7)
   pub value :
-      WrongAt (onKind kind byValue) (at kind 0) (offset (negℤ (pos 127999))) (largestIn 0) 0 127999
-  pub last : WrongAt (onKind kind keepsLast) (at kind 0) (twoOffsets (pos 7) (pos 5)) (largestIn 0) 5 7
-  pub first : WrongAt (onKind kind keepsFirst) (at kind 0) (twoOffsets (pos 5) (pos 7)) (largestIn 0) 5 7
-  pub setting :
-      let e = Call (case.set 5 0) in
-      WrongAt (onKind kind (clearedBy e)) (at kind 0) (andThen e) (countIn 0) 0 1
-  pub ticked :
-      WrongAt (onKind kind (clearedBy (Call Tick))) (at kind 0) (andThen (Call Tick)) (countIn 0) 0 1
-  pub caughtUp :
-      let e = CatchUp 3 false in
-      WrongAt (onKind kind (clearedBy e)) (at kind 0) (andThen e) (countIn 0) 0 1
-  pub read :
-      WrongAt (onKind kind (clearedBy (Call Reading))) (at kind 0) (andThen (Call Reading)) (countIn 0) 0 1
-  pub refusing :
-      WrongAt (onKind kind othersClear) (at kind 0) (andThen (Call (asks (pos 7)))) (countIn 0) 0 1
+      WrongAt (onKind kind byValue) (at kind 0) (twoOffsets (negℤ (pos 127999)) 900 (pos 5))
+      (cell 0 1 0 (holding 1 1 5))
+      (cell 0 1 127999 (holding 1 1 5))
+  pub last :
+      WrongAt (onKind kind keepsLast) (at kind 0) (twoOffsets (pos 7) 0 (pos 5))
+      (holding 0 2 5)
+      (holding 0 2 7)
+  pub first :
+      WrongAt (onKind kind keepsFirst) (at kind 0) (twoOffsets (pos 5) 0 (pos 7))
+      (holding 0 2 5)
+      (holding 0 2 7)
+  pub bySetting :
+      ClearedAt kind (clearedBy setting) setting (tick ∷ reading ∷ catchUp ∷ none ∷ tooSoon ∷ [])
+  pub byTick :
+      ClearedAt kind (clearedBy tick) tick (reading ∷ catchUp ∷ none ∷ tooSoon ∷ setting ∷ [])
+  pub byCatchUp :
+      ClearedAt kind (clearedBy catchUp) catchUp (tick ∷ reading ∷ none ∷ tooSoon ∷ setting ∷ [])
+  pub byReading :
+      ClearedAt kind (clearedBy reading) reading (tick ∷ catchUp ∷ none ∷ tooSoon ∷ setting ∷ [])
+  pub byOther : ClearedAt kind othersClear none (tick ∷ reading ∷ catchUp ∷ setting ∷ [])
+  pub byRefused : ClearedAt kind othersClear tooSoon (tick ∷ reading ∷ catchUp ∷ setting ∷ [])
   -- no list is short enough to show where a count stops: these are shown at some 65,536 offsets
   pub limit : (n : ℕ) → CarriedIsAfresh (onKind kind (stopsAt n)) → n ≡ 65535
   pub wrapping : CarriedIsAfresh (onKind kind wraps) → ⊥
