@@ -71,7 +71,7 @@ fn later(c: Clock) -> Clock {
 }
 
 // A clock after requests, with the checksum of what they answered.
-#[derive(Drop)]
+#[derive(Clone, Copy)]
 pub(crate) struct Requested {
     pub(crate) sum: u64,
     pub(crate) clock: Clock,

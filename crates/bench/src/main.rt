@@ -1,6 +1,8 @@
 // Repeats an operation as often as a line of standard input says, as `tick 1000000`, and prints a checksum
 // that depends on every result: one for each line. `bench/run` compares the cost of each with that of the
 // same operation in C.
+#![tactic(auto)]
+
 mod clocks;
 mod labels;
 mod numbers;
@@ -62,7 +64,7 @@ fn least_number(line: &[u8], digit: usize) -> u32 {
     }
 }
 
-#[derive(Drop)]
+#[derive(Clone, Copy)]
 enum Answer {
     Checksum(u64),
     NoOperation,

@@ -2,6 +2,8 @@
 // and prints a checksum that depends on every result. `bench/run` compares its cost with that of the same
 // in C. A program of its own: what two places of one program call is kept apart from both, and beside the
 // operations of `bench` it would make a plain request and a tick dearer.
+#![tactic(auto)]
+
 mod requests;
 mod sum;
 mod values;

@@ -25,7 +25,7 @@ const TO_MARCH_2100: u32 = WHOLE - 47541;
 // The same for days that are counted from 1 March 1968, a 29 February 2100 among them.
 const TO_MARCH_2100_OF_BASE: u32 = WHOLE - 48213;
 
-#[derive(Drop)]
+#[derive(Clone, Copy)]
 pub(crate) struct Month {
     pub(crate) year: u32,
     pub(crate) month: u32,

@@ -254,9 +254,9 @@ unfolding ticks_of ran_of
 ticks_none c t = simp t
 
 module _ (c : Clock) (n : ℕ) (t : in_range c ≡ true) where
-  one_more : (tick_of c).refusal ≡ 0 → ticks_of (suc n) c ≡ ticks_of n (tick_of c).clock
+  one_more_lem : (tick_of c).refusal ≡ 0 → ticks_of (suc n) c ≡ ticks_of n (tick_of c).clock
   unfolding ticks_of
-  one_more h = simp (t, run_accepted c n false h, ticked_in_range c t (tick_case c))
+  one_more_lem h = simp (t, run_accepted c n false h, ticked_in_range c t (tick_case c))
 
   none_more : ((tick_of c).refusal ≡ 0 → ⊥) → ticks_of (suc n) c ≡ record { refusal = (tick_of c).refusal; clock = c }
   unfolding ticks_of
@@ -266,8 +266,8 @@ by_tick : (c : Clock) (n : ℕ) → TickCase c → ticks_of (suc n) c ≡ cond (
 unfolding ticks_of
 by_tick c n (out t e) = simp (t, e)
 by_tick c n (last k l e) = none_more c n (ok_back c k) (λ h. absurd (omega (arith, rw e at h))) ∙ simp e
-by_tick c n (plain k l less e) = one_more c n (ok_back c k) (rw e refl) ∙ simp e
-by_tick c n (rolls k l more less e) = one_more c n (ok_back c k) (rw e refl) ∙ simp e
+by_tick c n (plain k l less e) = one_more_lem c n (ok_back c k) (rw e refl) ∙ simp e
+by_tick c n (rolls k l more less e) = one_more_lem c n (ok_back c k) (rw e refl) ∙ simp e
 
 pub ticks_one_more : (c : Clock) (n : ℕ) → ticks_of (suc n) c ≡ cond (eqb (tick_of c).refusal 0) (ticks_of n (tick_of c).clock) (tick_of c)
 ticks_one_more c n = by_tick c n (tick_case c)

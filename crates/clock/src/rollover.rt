@@ -54,7 +54,7 @@ fn share_of(c: Clock) -> OffsetUnits
 }
 
 // A frequency in phase units a tick: the whole ones, and the parts of one that it leaves, with its sign.
-#[derive(Drop)]
+#[derive(Clone, Copy)]
 struct Divided {
     quotient: PhaseUnits,
     remainder: PhaseParts,
@@ -72,7 +72,7 @@ fn divide(kind: u8, f: Frequency) -> Divided
 }
 
 // What each tick adds: the adjustment to the phase, the remainder to the leftover.
-#[derive(Drop)]
+#[derive(Clone, Copy)]
 pub(crate) struct Increments {
     pub(crate) adjustment: PhaseUnits,
     pub(crate) remainder: PhaseParts,
@@ -96,7 +96,7 @@ pub(crate) fn increments_for(kind: u8, s: OffsetUnits, f: Frequency) -> Incremen
 const LAST_SECOND_OF_DAY: u32 = SECONDS_PER_DAY - 1;
 
 // The second and the status that a leap step leads to.
-#[derive(Drop)]
+#[derive(Clone, Copy)]
 struct Leap {
     seconds: u32,
     status: u8,

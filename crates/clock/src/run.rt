@@ -14,7 +14,7 @@ use state::{Clock, LAST_SECOND, MICROS_PER_SECOND, REFUSED_LAST};
 // how many ticks were accepted; the refusal of the tick that ended them, or 0; and the clock after the
 // accepted ones.
 #[repr(C)]
-#[derive(Drop)]
+#[derive(Clone, Copy)]
 pub struct CaughtUp {
     pub refusal: u8,
     pub count: u64,
@@ -24,7 +24,7 @@ pub struct CaughtUp {
 
 // Some ticks of a run: the refusal of the one that ended them, or 0; whether the last rolled the second over;
 // how many were accepted.
-#[derive(Drop)]
+#[derive(Clone, Copy)]
 struct Turn {
     refusal: u8,
     rolled: bool,

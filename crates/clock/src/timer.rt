@@ -11,7 +11,7 @@ use state::{
 };
 
 // The whole phase units that the leftover has reached, up or down, and what they leave of it.
-#[derive(Drop)]
+#[derive(Clone, Copy)]
 pub(crate) struct Reached {
     pub(crate) units: PhaseUnits,
     pub(crate) leftover: PhaseParts,
@@ -33,7 +33,7 @@ fn reached_of(c: Clock) -> Reached
 }
 
 // The microseconds, the phase and the leftover that a tick leads to, before a rollover takes a second off.
-#[derive(Drop)]
+#[derive(Clone, Copy)]
 pub(crate) struct Advance {
     pub(crate) micros: Micros,
     pub(crate) phase: PhaseUnits,

@@ -10,7 +10,7 @@ use crate::signed::{least, minus, pick, plus};
 // The refusal that the second implementation gave, and whether the first gave the same answer; of a list, how
 // many offsets it accepted on a clock with an earlier update: neither the first of the list, nor the first
 // after a setting; of a clock at an edge, 1 where whole units that add up decide its answer, up or down.
-#[derive(Drop)]
+#[derive(Clone, Copy)]
 pub(crate) struct Verdict {
     pub(crate) refusal: u64,
     pub(crate) same: bool,

@@ -10,7 +10,7 @@ pub(crate) const PRINT: [u8; 64] =
     *b"0000-00-00T00:00:00Z 000000 0\n..................................";
 
 // A place in a calendar: the years or months passed, and the days that are left.
-#[derive(Drop)]
+#[derive(Clone, Copy)]
 struct Rest {
     passed: u64,
     days: u64,
@@ -167,7 +167,7 @@ fn second_of(stamp: u64) -> u64 {
     minus(second, pick(stamp % 100 == 60, 1, 0))
 }
 
-#[derive(Drop)]
+#[derive(Clone, Copy)]
 pub(crate) struct Label {
     pub(crate) refusal: u64,
     pub(crate) second: u64,

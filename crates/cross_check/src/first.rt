@@ -260,7 +260,7 @@ pub(crate) fn same_number(bytes: [u8; 64], end: usize, at: usize, mine: Number) 
 
 // What a writer answered: its refusal and, but for a label, the place after what it wrote; and the buffer, of
 // which it was lent a part.
-#[derive(Drop)]
+#[derive(Clone, Copy)]
 pub(crate) struct Wrote {
     pub(crate) refusal: u64,
     pub(crate) next: usize,
@@ -375,7 +375,7 @@ fn summary_of(mine: Cells) -> Summary {
 
 // The summaries that the first has carried along a list, by value and in place, and whether it answered the
 // events as the second did.
-#[derive(Drop)]
+#[derive(Clone, Copy)]
 pub(crate) struct Carried {
     by_value: Summary,
     in_place: Summary,

@@ -6,7 +6,7 @@ use crate::signed::{minus, pick, plus, wide};
 // How many numbers a row has: as many as the longest record. An event has fewer.
 pub(crate) const ROW: usize = 16;
 
-#[derive(Drop)]
+#[derive(Clone, Copy)]
 pub(crate) struct Number {
     pub(crate) refusal: u64,
     pub(crate) value: u64,
@@ -64,7 +64,7 @@ pub(crate) fn read(bytes: &[u8; 64], end: usize, at: usize) -> Number {
 
 // Where the reading of rows stands: the place of the next number, how many numbers were passed, and the
 // refusal, after which none is read.
-#[derive(Drop)]
+#[derive(Clone, Copy)]
 pub(crate) struct Cursor {
     pub(crate) refusal: u64,
     pub(crate) next: usize,
@@ -151,7 +151,7 @@ pub(crate) fn put_all(bytes: &mut [u8; 64], at: usize, row: &[u64; ROW], mask: u
 }
 
 // A row written at `at` of a buffer that holds `fill`, and the place after it.
-#[derive(Drop)]
+#[derive(Clone, Copy)]
 pub(crate) struct Draft {
     pub(crate) text: [u8; 64],
     pub(crate) next: usize,

@@ -7,6 +7,8 @@
 // of the cases that are owed is missing and none differs, and there were 1,000 such offsets and as many such
 // cases, up and down; else it begins with `cross_check: DIFFER` and says how many differ in how many groups,
 // whose lines above name them, or with `cross_check: TOO FEW` and says of what, and of how many.
+#![tactic(auto)]
+
 mod calls;
 mod dates;
 mod devices;
@@ -167,7 +169,7 @@ fn tell_answers(met: &[u64; ANSWERS]) {
 
 // What a group came to, or all of them: cases compared and those that differ, groups without such a case, the
 // offsets of lists, and the cases that whole units decide.
-#[derive(Drop)]
+#[derive(Clone, Copy)]
 struct Tally {
     compared: u64,
     differ: u64,

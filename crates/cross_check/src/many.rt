@@ -5,7 +5,7 @@ use crate::signed::pick;
 
 // The answer of an event: the refusal of the call, how many ticks it made, the refusal of the tick that ended
 // them, and the clock. Of a single call both numbers in the middle are 0.
-#[derive(Drop)]
+#[derive(Clone, Copy)]
 pub(crate) struct Many {
     pub(crate) refusal: u64,
     pub(crate) count: u64,

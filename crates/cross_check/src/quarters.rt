@@ -15,7 +15,7 @@ const KEPT: usize = 32;
 
 // The accepted offsets of a list: the fourteen digits of the label before each, and the offset, mapped; how
 // many there are; and what stood in the quarter-hours before the list, which is nothing for 0.
-#[derive(Drop)]
+#[derive(Clone, Copy)]
 pub(crate) struct Taken {
     stamps: [u64; KEPT],
     offsets: [u64; KEPT],
@@ -47,7 +47,7 @@ pub(crate) fn taken_after(t: Taken, s: State, row: &[u64; ROW], refusal: u64) ->
 }
 
 // How many offsets there are in a quarter-hour, at most 65,535, and the largest size of one (us).
-#[derive(Drop)]
+#[derive(Clone, Copy)]
 pub(crate) struct Quarter {
     pub(crate) count: u64,
     pub(crate) largest: u64,
@@ -95,7 +95,7 @@ pub(crate) fn quarter_of(t: Taken, quarter: u64) -> Quarter {
 }
 
 // All quarter-hours after a list.
-#[derive(Drop)]
+#[derive(Clone, Copy)]
 pub(crate) struct Cells {
     pub(crate) counts: [u16; QUARTERS],
     pub(crate) largest: [u32; QUARTERS],

@@ -153,7 +153,7 @@ pub(crate) fn state(case: u64) -> State {
 }
 
 // A clock, and how many ticks it is to make.
-#[derive(Drop)]
+#[derive(Clone, Copy)]
 pub(crate) struct Edge {
     pub(crate) state: State,
     pub(crate) ticks: u64,
@@ -343,7 +343,7 @@ fn some_byte(kind: u64, v: u64) -> u8 {
 }
 
 // A lent part of bytes: the first `end`.
-#[derive(Drop)]
+#[derive(Clone, Copy)]
 pub(crate) struct Bytes {
     pub(crate) bytes: [u8; 64],
     pub(crate) end: usize,

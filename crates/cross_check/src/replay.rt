@@ -55,7 +55,7 @@ fn answer_of(s: State, row: &[u64; ROW]) -> Answer {
 
 // A line of the output: the first `size` bytes of the text. Numbers that begin at the place `plain` or behind
 // it stand there without their leading zeros.
-#[derive(Drop)]
+#[derive(Clone, Copy)]
 struct Line {
     text: [u8; 64],
     size: usize,
@@ -128,7 +128,7 @@ fn put_line(out: &mut [u8; OUTPUT], at: usize, line: Line) -> usize {
 // Where a run stands: the clock, how many bytes of output there are, the place of the next event, the end of
 // the history, the refusal of the log line, else of the last refused event, and whether it is over; whether
 // the summary is asked for, the next quarter-hour whose line is due, and the accepted offsets.
-#[derive(Drop)]
+#[derive(Clone, Copy)]
 pub(crate) struct Replayed {
     pub(crate) state: State,
     pub(crate) size: usize,

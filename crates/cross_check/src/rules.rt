@@ -9,7 +9,7 @@ use crate::signed::{Signed, halved, least, mapped, minus, pick, plus, sum, unmap
 // The table of document 01, in its order; `since` is document 02's number of rollovers since the last offset,
 // in place of its second. Behind it document 02's kind of device, and the parts of a phase unit that each
 // tick adds and that have added up.
-#[derive(Drop)]
+#[derive(Clone, Copy)]
 pub(crate) struct State {
     pub(crate) seconds: u64,
     pub(crate) micros: u64,
@@ -28,7 +28,7 @@ pub(crate) struct State {
     pub(crate) leftover: u64,
 }
 
-#[derive(Drop)]
+#[derive(Clone, Copy)]
 pub(crate) struct Answer {
     pub(crate) refusal: u64,
     pub(crate) state: State,

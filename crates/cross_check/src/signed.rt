@@ -3,7 +3,7 @@
 // document 01 reaches lies far below 2^62.
 
 // Zero may have either sign: `mapped` tells them apart no more.
-#[derive(Drop)]
+#[derive(Clone, Copy)]
 pub(crate) struct Signed {
     pub(crate) negative: bool,
     pub(crate) size: u64,

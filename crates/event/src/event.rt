@@ -8,7 +8,7 @@ use clock::{
 use request::{Request, adjust};
 
 // A single call on a clock.
-#[derive(Drop)]
+#[derive(Clone, Copy)]
 pub enum Call {
     Tick,
     // the seconds and the microseconds to set
@@ -18,7 +18,7 @@ pub enum Call {
 }
 
 // What can happen to a clock.
-#[derive(Drop)]
+#[derive(Clone, Copy)]
 pub enum Event {
     Call(Call),
     // many ticks in one call: the ceiling, and whether to stop after the tick that rolls the second over
@@ -29,7 +29,7 @@ pub enum Event {
 // clock after it; and what the clock shows where the event is an accepted reading, else zeros and status 4.
 // Of a catch-up also how many ticks were accepted, and the refusal of the tick that ended them, or 0; of a
 // single call both are 0.
-#[derive(Drop)]
+#[derive(Clone, Copy)]
 pub struct Stepped {
     pub refusal: u8,
     pub count: u64,

@@ -24,14 +24,14 @@ pub extern "C" fn heukelvos_tick_in_place(c: &mut Clock) -> u8
 // What a catch-up answers beside the clock: the refusal of the call, how many ticks were accepted, and the
 // refusal of the tick that ended them, or 0.
 #[repr(C)]
-#[derive(Drop)]
+#[derive(Clone, Copy)]
 pub struct Counted {
     pub refusal: u8,
     pub count: u64,
     pub tick_refusal: u8,
 }
 
-#[derive(Drop)]
+#[derive(Clone, Copy)]
 struct CountedClock {
     answer: Counted,
     clock: Clock,

@@ -16,7 +16,7 @@ const LAST_CODE: u64 = 4;
 // An event. Code 0 is a tick, 1 a setting to `seconds` and `micros`, 2 the request, 3 a reading, 4 a catch-up
 // of up to `ceiling` ticks that may `stop` at a rollover. Only the numbers of its code are looked at.
 #[repr(C)]
-#[derive(Drop)]
+#[derive(Clone, Copy)]
 pub struct CodedEvent {
     pub code: u64,
     pub seconds: u64,

@@ -1,5 +1,7 @@
 // Histories: events in the number form of saved records, one after the other. `read` takes the event at a
 // place of any bytes.
+#![tactic(auto)]
+
 ghost use Rattle.std.specs.Prelude.{◌≡◌, ◌%◌, ◌<◌};
 ghost use Rattle.number.specs.Reading.{told as Number·told};
 ghost use Rattle.number.specs.Inner.{refused_as};
@@ -14,7 +16,7 @@ use request::{
 use state::{AskedMicros, REFUSED_FIELD};
 
 // An event of a history.
-#[derive(Drop)]
+#[derive(Clone, Copy)]
 pub enum Event {
     // so many single ticks, up to the first refusal
     Ticks(u64),
@@ -25,7 +27,7 @@ pub enum Event {
 }
 
 // What stands at a place: an event, with the place after it; or the refusal, 10, 11 or 12.
-#[derive(Drop)]
+#[derive(Clone, Copy)]
 pub enum Entry {
     Whole { event: Event, next: usize },
     Refused(u8),

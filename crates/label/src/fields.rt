@@ -64,7 +64,7 @@ pub(crate) fn date_at(text: &[u8]) -> Date
     }
 }
 
-#[derive(Drop)]
+#[derive(Clone, Copy)]
 pub(crate) enum DayTime {
     // A second of a day, and whether it was shown as the 60 that repeats the last one.
     At { second: u32, sixty: bool },

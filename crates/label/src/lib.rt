@@ -1,5 +1,7 @@
 // UTC labels, `1970-01-01T00:00:00Z` to `2106-02-07T06:28:15Z`: `write` fills a lent buffer with a clock's
 // label, and `read` accepts exactly what `write` can write.
+#![tactic(auto)]
+
 mod fields;
 mod text;
 mod units;
@@ -47,7 +49,7 @@ pub fn write(c: Clock, out: &mut [u8]) -> u8
 
 // The answer of `read`: refusal 0 with the second and whether it was a 60, which repeats the 59 before it; or
 // refusal 15 with second 0 and no 60.
-#[derive(Drop)]
+#[derive(Clone, Copy)]
 pub struct UtcSecond {
     pub refusal: u8,
     pub seconds: u32,

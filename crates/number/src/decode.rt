@@ -24,7 +24,7 @@ const TOP_BITS: u64 = SAYS_MORE + SECOND_GROUP * SAYS_MORE;
 
 // What reading at a place gives: the number there, below 2^35, and the place after it; or the refusal, 10 or
 // 11.
-#[derive(Drop)]
+#[derive(Clone, Copy)]
 pub enum Decoded {
     Value { value: u64, next: usize },
     Refused(u8),

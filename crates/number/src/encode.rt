@@ -8,7 +8,7 @@ use crate::form::{GROUP, MORE, MOST_BYTES};
 use state::REFUSED_ROOM;
 
 // The answer of a writer: refusal 0 and the place after what was written, or refusal 14 and 0.
-#[derive(Drop)]
+#[derive(Clone, Copy)]
 pub struct Written {
     pub refusal: u8,
     pub next: usize,

@@ -2,6 +2,8 @@
 // every byte but the last, in their shortest form and in at most five bytes. (Elsewhere: LEB128, and zigzag
 // for the mapping of signed numbers.) Every public function is total: any bytes, any place and any buffer may
 // be handed in.
+#![tactic(auto)]
+
 mod decode;
 mod encode;
 mod form;

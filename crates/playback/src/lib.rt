@@ -1,4 +1,6 @@
 // A run over a history: its lines, in order, and the clock that it leaves.
+#![tactic(auto)]
+
 mod lines;
 mod run;
 

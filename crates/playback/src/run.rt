@@ -19,7 +19,7 @@ pub const LONGEST_HISTORY: usize = 65536;
 pub const LONGEST_LINE: usize = 30;
 
 // The same two, as one value.
-#[derive(Drop)]
+#[derive(Clone, Copy)]
 pub struct RunLimits {
     pub history: usize,
     pub line: usize,
@@ -39,7 +39,7 @@ pub fn run_limits() -> RunLimits
 
 // Where a run stands: its clock; the place of the next event; whether it has ended; the next quarter-hour
 // whose line is printed, where the history asks for the summary; and the summary of the events so far.
-#[derive(Drop)]
+#[derive(Clone, Copy)]
 pub struct Run {
     pub clock: Clock,
     pub place: usize,
@@ -75,7 +75,7 @@ fn is_reading(call: event::Call) -> bool
 }
 
 // The clock after an event, and the place after its line in the lent buffer.
-#[derive(Drop)]
+#[derive(Clone, Copy)]
 struct Done {
     clock: Clock,
     at: usize,
@@ -138,7 +138,7 @@ fn run_event(
 }
 
 // How far a run has come with its events; `ended` by bytes that hold none.
-#[derive(Drop)]
+#[derive(Clone, Copy)]
 struct Walk {
     clock: Clock,
     place: usize,
@@ -146,7 +146,7 @@ struct Walk {
 }
 
 // The run after some steps, and the place after what they wrote.
-#[derive(Drop)]
+#[derive(Clone, Copy)]
 struct Step {
     walk: Walk,
     at: usize,
@@ -222,7 +222,7 @@ fn run_events(
 }
 
 // The next quarter-hour, and the place after the lines of those before it.
-#[derive(Drop)]
+#[derive(Clone, Copy)]
 struct Listed {
     quarter: usize,
     at: usize,
@@ -257,7 +257,7 @@ fn put_quarters(
 // The answer of `fill`: refusal 0, where the run stands, and how many bytes of the buffer were written; or
 // refusal 14 for a run that has not ended and a buffer that has no room for a line, with the run as it was
 // and no bytes.
-#[derive(Drop)]
+#[derive(Clone, Copy)]
 pub struct Filling {
     pub refusal: u8,
     pub run: Run,

@@ -16,7 +16,7 @@ const LAST_VERSION: u64 = VERSION as u64;
 
 // What reading a field gives: its number, which is in its range, and the place after it; or the refusal, 10,
 // 11 or 12. A signed field's number is the one that it is mapped to.
-#[derive(Drop)]
+#[derive(Clone, Copy)]
 pub(crate) enum Field {
     Value(u32, usize),
     Refused(u8),

@@ -7,45 +7,45 @@ use crate::field::unmapped_of;
 use state::{Clock, Frequency, Micros, OffsetUnits, PhaseParts, PhaseUnits};
 
 // What stands before the table's fields.
-#[derive(Drop)]
+#[derive(Clone, Copy)]
 pub(crate) struct Head {
     pub version: u32,
     pub kind: u8,
 }
 
-#[derive(Drop)]
+#[derive(Clone, Copy)]
 pub(crate) struct Time {
     pub seconds: u32,
     pub micros: u32,
     pub phase: u32,
 }
 
-#[derive(Drop)]
+#[derive(Clone, Copy)]
 pub(crate) struct Loop {
     pub offset: u32,
     pub frequency: u32,
 }
 
-#[derive(Drop)]
+#[derive(Clone, Copy)]
 pub(crate) struct Rate {
     pub adjustment: u32,
     pub constant: u8,
 }
 
-#[derive(Drop)]
+#[derive(Clone, Copy)]
 pub(crate) struct Update {
     pub updated: u8,
     pub interval: u32,
 }
 
-#[derive(Drop)]
+#[derive(Clone, Copy)]
 pub(crate) struct Errors {
     pub maxerror: u32,
     pub esterror: u32,
     pub status: u8,
 }
 
-#[derive(Drop)]
+#[derive(Clone, Copy)]
 pub(crate) struct Parts {
     pub remainder: u32,
     pub leftover: u32,

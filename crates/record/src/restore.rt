@@ -27,7 +27,7 @@ const MAPPED_FREQUENCY: u32 = 2 * (MAX_FREQUENCY as u32);
 
 // The answer of a reading: refusal 0 and the clock that was saved, or refusal 10, 11, 12 or 13 and the fresh
 // clock of kind 0.
-#[derive(Drop)]
+#[derive(Clone, Copy)]
 pub struct Restored {
     pub refusal: u8,
     pub clock: Clock,

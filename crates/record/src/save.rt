@@ -8,7 +8,7 @@ use state::{Clock, REFUSED_ROOM, REFUSED_STATE, in_range};
 const ROOM: usize = 5 * NUMBERS;
 
 // The answer of a write: refusal 0 and how many bytes the record has, or refusal 1 or 14 and 0.
-#[derive(Drop)]
+#[derive(Clone, Copy)]
 pub struct Saved {
     pub refusal: u8,
     pub length: usize,

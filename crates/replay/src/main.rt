@@ -1,5 +1,7 @@
 // Replays a history: standard input to standard output. A read or a write that fails is said on standard
 // error; what was read before a read that fails is not run.
+#![tactic(auto)]
+
 ghost use Rattle.std.specs.Prelude.{◌≤◌, length};
 ghost use Rattle.replay.specs.Input.{most};
 
@@ -10,7 +12,7 @@ use playback::{LONGEST_HISTORY, fill, start};
 const ROOM: usize = LONGEST_HISTORY + 1;
 
 // What was read: so many bytes, up to the end of the input or of the room; or a read failed.
-#[derive(Drop)]
+#[derive(Clone, Copy)]
 enum Input {
     Bytes(usize),
     Failed,

@@ -20,7 +20,7 @@ pub const ADJ_STATUS: u64 = 16;
 pub const ADJ_TIMECONST: u64 = 32;
 
 // The same bits, as one value.
-#[derive(Drop)]
+#[derive(Clone, Copy)]
 pub struct ModeBits {
     pub offset: u64,
     pub frequency: u64,
@@ -55,7 +55,7 @@ pub const MIN_INTERVAL: u32 = 64;
 
 // The mode says which fields are selected; the others are not looked at.
 #[repr(C)]
-#[derive(Drop)]
+#[derive(Clone, Copy)]
 pub struct Request {
     pub mode: u64,
     pub offset: AskedOffset,

@@ -24,7 +24,7 @@ pub fn most_clocks() -> usize
 // number; of a catch-up how many ticks were accepted, and the refusal of the tick that ended them, or 0; and
 // of an accepted reading what the clock shows, else zeros and status 4.
 #[repr(C)]
-#[derive(Drop)]
+#[derive(Clone, Copy)]
 pub struct Answer {
     pub refusal: u8,
     pub count: u64,
@@ -33,7 +33,7 @@ pub struct Answer {
 }
 
 // An answer, and the clock that goes back to its place.
-#[derive(Drop)]
+#[derive(Clone, Copy)]
 pub struct Parted {
     pub answer: Answer,
     pub clock: Clock,

@@ -4,7 +4,7 @@ ghost use Rattle.state.specs.Device.{kind256, kind1024, device_of, constants_of}
 use crate::units::{Micros, PhaseUnits};
 
 // What sets one kind of recorder apart from another: the rules take these numbers from here.
-#[derive(Drop)]
+#[derive(Clone, Copy)]
 pub struct Device {
     // rate of the timer (Hz): from one rollover to the next there are that many ticks, or one more or fewer
     pub rate: u32,
@@ -60,7 +60,7 @@ pub(crate) fn device_of(kind: u8) -> Device
 }
 
 // A kind's constants: refusal 0 and those of the kind, or refusal 1 and those of kind 0.
-#[derive(Drop)]
+#[derive(Clone, Copy)]
 pub struct Constants {
     pub refusal: u8,
     pub device: Device,

@@ -1,6 +1,8 @@
 // The state of the disciplined clock of README.kern and RFC 1589, and what describes it: the kinds of number,
 // the constants of the devices, the fields with their ranges, the fresh clock. The calls on it are in
 // `clock`, which passes all of this on.
+#![tactic(auto)]
+
 mod device;
 mod limits;
 mod outcome;

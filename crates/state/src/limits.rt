@@ -58,7 +58,7 @@ pub const TIME_BAD: u8 = 4;
 // The constants above as values. Each function promises what it answers, and that the constants of these
 // names have the same values.
 
-#[derive(Drop)]
+#[derive(Clone, Copy)]
 pub struct Scales {
     pub phase: i32,
     pub offset: i32,
@@ -87,13 +87,13 @@ pub fn unit_scales() -> Scales
 }
 
 // The two ends of a signed range.
-#[derive(Drop)]
+#[derive(Clone, Copy)]
 pub struct Ends {
     pub lower: i32,
     pub upper: i32,
 }
 
-#[derive(Drop)]
+#[derive(Clone, Copy)]
 pub struct Limits {
     pub seconds: u32,
     pub micros: u32,
@@ -145,7 +145,7 @@ pub fn state_limits() -> Limits
     }
 }
 
-#[derive(Drop)]
+#[derive(Clone, Copy)]
 pub struct StatusCodes {
     pub ok: u8,
     pub ins: u8,

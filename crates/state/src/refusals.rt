@@ -60,7 +60,7 @@ pub const REFUSED_PLACE: u8 = 18;
 pub const REFUSED_TABLE: u8 = 19;
 
 // The same numbers, as one value.
-#[derive(Drop)]
+#[derive(Clone, Copy)]
 pub struct RefusalNumbers {
     pub state: u8,
     pub time: u8,

@@ -15,7 +15,7 @@ use crate::units::{Frequency, Micros, OffsetUnits, PhaseParts, PhaseUnits};
 // A clock's state, in the order of document 01's table; document 02's other fields follow it in the order of
 // its requests. Any value of the type may be handed in, sound or not.
 #[repr(C)]
-#[derive(Drop)]
+#[derive(Clone, Copy)]
 pub struct Clock {
     // seconds since 1970-01-01T00:00:00Z
     pub seconds: u32,

@@ -15,7 +15,7 @@ const GREATEST_COUNT: u16 = 65535;
 
 // For each quarter-hour how many offsets were accepted, up to 65,535, and the largest size among them (us), 0
 // where there are none.
-#[derive(Drop)]
+#[derive(Clone, Copy)]
 pub struct Summary {
     pub counts: [u16; QUARTERS],
     pub largest: [u32; QUARTERS],

@@ -73,7 +73,7 @@ pub fn step_in_place(
 }
 
 // The answer of an event, and the summary after it.
-#[derive(Drop)]
+#[derive(Clone, Copy)]
 pub struct Summed {
     pub stepped: Stepped,
     pub summary: Summary,

@@ -1,4 +1,6 @@
 // A summary of accepted offsets by the quarter-hours of the UTC day.
+#![tactic(auto)]
+
 mod cells;
 mod counting;
 

@@ -9,7 +9,7 @@ use clock::{AskedMicros, Clock, LAST_SECOND, MAX_CEILING};
 const NIGHT: u64 = 8 * 60 * 60 * 256;
 
 // A clock, and the ticks that the timer has counted and the clock has not made yet.
-#[derive(Drop)]
+#[derive(Clone, Copy)]
 struct Behind {
     due: u64,
     clock: Clock,

@@ -1,6 +1,8 @@
 // A tour of the clock, with a line of output for each step. A clock is a value: a call takes one and hands
 // back the next, and refusal 0. A call that is refused hands back the clock that it got, and the number of
 // its refusal.
+#![tactic(auto)]
+
 mod asleep;
 mod devices;
 mod show;

@@ -1,0 +1,18 @@
+-- `clock::run::run`: a run by turns. The loop's invariant: the clock is in range, and all ticks make of the
+-- clock as it was what those still to come make of it as it is, after those that were accepted. The measure
+-- is the ticks to come.
+use mathlib.Core.Path.{◌≡◌, sym, ◌∙◌}
+use mathlib.Core.Bool.{true}
+use Prim.Native.Nat.{◌+◌, ◌-◌, ◌≤◌}
+use native.Mathlib.Omega.{arith}
+use Rattle.state.specs.State.{in_range}
+use Rattle.clock.specs.Ticks.{ran_of}
+use Rattle.clock.specs.Inner.{adds}
+use Rattle.clock.proofs.RunLaws.{adds_none, run_ends, run_goes_on, run_none, turn_some}
+use Rattle.clock.proofs.run.run.Given as goal
+
+abbrev pub invariant-loop-left : goal.invariant-loop-left
+invariant-loop-left l = (in_range l.d ≡ true) × (l.left ≤ l.n) × (ran_of l.stop l.n l.initial.d ≡ adds (l.n - l.left) (ran_of l.stop l.left l.d))
+
+abbrev pub decreases-loop-left : goal.decreases-loop-left
+decreases-loop-left l = l.left

@@ -1,0 +1,12 @@
+-- `state::device::device_of`: the constants of a kind.
+use borrow.Author.Tests.{ne_eqb}
+use Rattle.state.specs.Device.{device_of}
+use Rattle.state.proofs.device.device_of.Goals as goal
+
+pub returns-in-1 : goal.returns-in-1
+unfolding device_of
+returns-in-1 c = simp c.in-1.is
+
+pub returns-in_default : goal.returns-in_default
+unfolding device_of
+returns-in_default c = simp (ne_eqb _ _ c.in_default.in_default-own.rest.1)
