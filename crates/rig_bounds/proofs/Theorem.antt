@@ -218,4 +218,4 @@ pub one_table : OneTable the_rig
 unfolding calls_in_turn OnlyTheseChange
 one_table at table [] h = tt
 one_table at table (e ∷ es) h =
-    (omega (arith, h), refl, one_table at _ es (omega (arith, h, (others_always_stay table e.place e.event).length)))
+    (omega (arith, h), refl, one_table at (table_after the_rig (record { table = table; at = at; place = e.place; event = e.event })) es (omega (arith, h, (others_always_stay table e.place e.event).length)))
