@@ -1,4 +1,3 @@
 pub mod EveryEvent
-pub mod LentTable
 pub mod RigEvent
 pub mod WrongRigs
