@@ -1,11 +1,8 @@
 -- A search for a date has one answer; and some answers.
 use mathlib.Core.Path.{◌≡◌, refl, sym, ◌∙◌, ap}
-use Prim.Native.Nat.{ℕ, ◌<◌}
+use Prim.Native.Nat.{ℕ}
 use native.Mathlib.Omega.{arith}
-use Rattle.calendar.specs.declared.Date.{Date}
-use Rattle.calendar.specs.declared.Found.{Found}
 use Rattle.calendar.specs.declared.Found.TheVariants.{Day, NoDay}
-use Rattle.calendar.specs.Calendar.{date_of, days}
 use Rattle.calendar.specs.Search.{FoundAs, found, none, OneAnswer, any_answer, Answers}
 use Rattle.calendar.proofs.Dates.{on, Sound, sound, one_day}
 use Rattle.calendar.proofs.Closed.{date_right}

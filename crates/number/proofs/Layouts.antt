@@ -3,7 +3,7 @@
 -- `layout_exactly_when` when each is given, `no_longer` how long a record can be.
 use mathlib.Core.Path.{◌≡◌, refl, sym, ◌∙◌, ap}
 use mathlib.Core.Bool.{Bool, true, false, cond, ◌&&◌, false≢true, and_assoc, and-false}
-use mathlib.Core.Bool.{and_true as and_one}
+use mathlib.Core.Bool.{and-true as and_one}
 use mathlib.Core.List.{List, [], ◌∷◌}
 use mathlib.Core.Logic.{◌⊎◌, inl, inr, ⊎_elim}
 use Prim.Native.Nat.{ℕ, suc, ◌+◌, ◌^◌, ◌<◌, ◌≤◌}

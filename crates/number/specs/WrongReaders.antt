@@ -1,8 +1,8 @@
 -- Readers of numbers, fields and layouts that the statements of `Properties` and `Stopping` shut out: each is
 -- wrong in one way. So none of the statements is empty.
-use Rattle.std.specs.Prelude.{Bool, false, cond, List, ℕ, suc, ◌+◌, leb, ltb, length, take, drop}
+use Rattle.std.specs.Prelude.{false, cond, List, ℕ, suc, ◌+◌, leb, ltb, length, take, drop}
 use Rattle.number.specs.Form.{limit, most_bytes}
-use Rattle.number.specs.Layout.{judged_by, field_at, Layout, place, whole, got, failed, read_from}
+use Rattle.number.specs.Layout.{judged_by, field_at, place, whole, got, failed, read_from}
 use Rattle.number.specs.Reading.{Found, number, refused, leading_more, value_of, number_at}
 use Rattle.number.specs.Properties.{Reader, ReadsWritten, OneForm, Extends, RefusedOnly, SizeTable}
 use Rattle.number.specs.Stopping.{FieldReader, FieldExactlyWhen, LayoutReader, LayoutExactlyWhen}
