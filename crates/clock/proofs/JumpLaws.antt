@@ -14,7 +14,6 @@ use Rattle.integers.proofs.Parts.{pos_part, neg_part, parts, one_part, eq_parts,
 use Rattle.integers.proofs.Linear.{self, add, times}
 use Rattle.integers.proofs.Carrying.{rest, rest_lt}
 use Rattle.integers.proofs.Leftover as kept
-use Rattle.state.specs.Units.{micros}
 use Rattle.state.specs.Device.{device_of}
 use Rattle.state.specs.Inner.{longest_tick}
 use Rattle.state.specs.declared.device.Device.{Device}

@@ -15,7 +15,7 @@ use Rattle.number.specs.Properties.{Extent}
 use Rattle.number.proofs.Extent.{extent}
 use Rattle.number.proofs.Steps.{first_last}
 use Rattle.number.proofs.WrittenRead.{one_form}
-use Rattle.history.specs.Event.{Found, found, refused, ticks_at, setting_at, request_at, summary_at, arguments_at, event_at}
+use Rattle.history.specs.Event.{Found, refused, ticks_at, setting_at, request_at, summary_at, arguments_at, event_at}
 use Rattle.history.specs.Event.{is_summary, asks_summary}
 
 -- what stands at a place is not what asks for the summary

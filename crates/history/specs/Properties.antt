@@ -1,6 +1,6 @@
 -- What holds of every event: the statement that the crate proves of `event_at`, said of any reader, and
 -- readers that it shuts out.
-use Rattle.std.specs.Prelude.{◌≡◌, cond, List, [], ℕ, ◌+◌, ◌<◌, ◌≤◌, leb, length}
+use Rattle.std.specs.Prelude.{◌≡◌, cond, List, ℕ, ◌+◌, ◌<◌, ◌≤◌, leb, length}
 use Rattle.event.specs.declared.event.Call.TheVariants.{Reading}
 use Rattle.history.specs.declared.Event.{Event}
 use Rattle.history.specs.declared.Event.TheVariants.{Call}

@@ -1,9 +1,8 @@
 -- Rigs that Req 07 shuts out: for each a property that it does not have. Each follows the rules but for what
 -- is said of it.
-use Rattle.std.specs.Prelude.{cond, List, [], ◌∷◌, ◌++◌, ℕ, eqb, set}
+use Rattle.std.specs.Prelude.{cond, [], ◌∷◌, ◌++◌, ℕ, eqb, set}
 use Rattle.state.specs.Device.{kind256}
 use Rattle.state.specs.State.{fresh_clock, in_range}
-use Rattle.state.specs.declared.state.Clock.{Clock}
 use Rattle.event.specs.Event.{step_of}
 use Rattle.rig.specs.Rig.{table_refusal, clock_at, bare_answer, answer_at, table_at}
 use Rattle.rig.specs.OneClock.{Rig, NamedClockDecides, OthersAlwaysStay, RefusedLeavesAll, EveryPlaceServed}

@@ -1,5 +1,5 @@
 -- Demand 3 on a rig, from demand 3 of every list: each call is a call on a clock by itself.
-use Prim.Native.Nat.{ℕ, ◌+◌, ◌*◌, ◌≤◌, ◌<◌}
+use Prim.Native.Nat.{ℕ, ◌+◌, ◌*◌, ◌≤◌}
 use mathlib.Core.Path.{◌≡◌, refl, sym, ◌∙◌, ap, subst}
 use mathlib.Core.Bool.{Bool, true, false, ◌&&◌, cond}
 use mathlib.Core.List.{List, [], ◌∷◌, ◌++◌, append_assoc}
@@ -28,7 +28,7 @@ use Rattle.rig.proofs.OneClock.{answer_passed, next_passed, table_kept, others_a
 use Rattle.rig_bounds.specs.Demand.{RigCall, rig_answer, table_after, clock_before, clock_behind}
 use Rattle.rig_bounds.specs.Demand.{reaches, own_events, OnlyTheseChange, AsAlone, Each, EachAsAlone}
 use Rattle.rig_bounds.specs.Demand.{ReadingOf, ReadingAccepted, ReadingsNear, MovedAtRollover}
-use Rattle.rig_bounds.specs.Demand.{ReadingsForward, Demand3OfEveryRig, PlacedEvent, calls_in_turn, OneTable}
+use Rattle.rig_bounds.specs.Demand.{ReadingsForward, Demand3OfEveryRig, calls_in_turn, OneTable}
 
 -- ---- one call
 

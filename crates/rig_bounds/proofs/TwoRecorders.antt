@@ -1,7 +1,7 @@
 -- What demand 3 says of two recorders, from the theorem on every rig.
-use mathlib.Core.Path.{◌≡◌, refl}
+use mathlib.Core.Path.{refl}
 use mathlib.Core.List.{List, [], ◌∷◌}
-use Prim.Native.Nat.{ℕ, ◌<◌}
+use Prim.Native.Nat.{ℕ}
 use native.Mathlib.Omega.{arith}
 use Rattle.state.specs.Device.{device_of, kind256, kind1024}
 use Rattle.state.specs.State.{fresh_clock, in_range}
@@ -15,8 +15,8 @@ use Rattle.bounds.specs.Singly.{singly_from}
 use Rattle.bounds.specs.Measure.{measure_of}
 use Rattle.rig.specs.Rig.{answer_at, table_at}
 use Rattle.rig.specs.OneClock.{the_rig}
-use Rattle.rig_bounds.specs.Demand.{RigCall, own_events, OnlyTheseChange, Demand3OfRigClock, FirstBoundOfRigClock, calls_in_turn}
-use Rattle.rig_bounds.specs.TwoRecorders.{both, in_turn, table_from, of_first, OfTwoRecorders}
+use Rattle.rig_bounds.specs.Demand.{RigCall, own_events, Demand3OfRigClock, FirstBoundOfRigClock, calls_in_turn}
+use Rattle.rig_bounds.specs.TwoRecorders.{both, in_turn, table_from, OfTwoRecorders}
 use Rattle.rig_bounds.proofs.Theorem.{demand3_of_rig, one_table}
 
 -- the calls as the recorder at a place sees them

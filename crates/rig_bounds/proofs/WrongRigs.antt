@@ -1,24 +1,20 @@
 -- The wrong rigs do not meet demand 3: each computed at its list of calls.
 use mathlib.Core.Path.{refl, ap}
-use mathlib.Core.List.{List, [], ◌∷◌}
+use mathlib.Core.List.{[], ◌∷◌}
 use native.Mathlib.Omega.{arith}
 use borrow.Author.Tests.{eqb-false}
-use Rattle.state.specs.Device.{device_of, kind256}
-use Rattle.state.specs.State.{fresh_clock, in_range}
+use Rattle.state.specs.Device.{device_of}
+use Rattle.state.specs.State.{in_range}
 use Rattle.state.specs.declared.state.Clock.{Clock}
 use Rattle.clock.specs.Reading.{told_of, reading_refusal}
 use Rattle.clock.specs.Tick.{unit_in, ticked, tick_refusal, tick_of}
 use Rattle.clock.specs.Setting.{setting_refusal, setting_of}
 use Rattle.request.specs.Request.{request_refusal, requested, request_of}
-use Rattle.event.specs.Event.{step_of}
-use Rattle.event.specs.declared.event.Call.TheVariants.{Tick, Reading}
 use Rattle.bounds.specs.Calls.{after_by, count_among_by, none_among_by}
 use Rattle.bounds.proofs.ShutOut.{not_below, not_most}
 use Rattle.bounds.specs.Singly.{singly_from}
 use Rattle.bounds.specs.Book.{book_from}
 use Rattle.bounds.specs.Measure.{measure_of}
-use Rattle.cases.specs.Cases.{set}
-use Rattle.event.specs.declared.event.Event.TheVariants.{Call}
 use Rattle.rig.specs.Rig.{answer_at, table_at}
 use Rattle.rig.specs.declared.rig.Answer.{Answer}
 use Rattle.rig_bounds.specs.Demand.{own_events, OnlyTheseChange, calls_in_turn}

@@ -1,5 +1,5 @@
 -- Demand 3 at one list: two recorders, one of each kind, hang on a host, and their events come in turn.
-use Rattle.std.specs.Prelude.{◌≡◌, List, [], ◌∷◌, ◌++◌, ℕ, ◌+◌, ◌≤◌}
+use Rattle.std.specs.Prelude.{◌≡◌, List, [], ◌∷◌, ◌++◌, ◌+◌, ◌≤◌}
 use Rattle.state.specs.Device.{kind256, kind1024}
 use Rattle.state.specs.State.{fresh_clock}
 use Rattle.state.specs.declared.state.Clock.{Clock}

@@ -3,7 +3,6 @@
 use Rattle.std.specs.Prelude.{List, [], ◌∷◌, ℕ, pos}
 use Rattle.state.specs.Device.{kind256}
 use Rattle.state.specs.State.{fresh_clock}
-use Rattle.state.specs.declared.state.Clock.{Clock}
 use Rattle.event.specs.Event.{step_of}
 use Rattle.event.specs.declared.event.Call.{Call as SingleCall}
 use Rattle.event.specs.declared.event.Call.TheVariants.{Tick, Reading}

@@ -1,7 +1,6 @@
 -- `history::field_at` meets its contract.
 use borrow.Author.Tests.{eq-eqb, ne_eqb}
 use Rattle.history.specs.Event.{field_at}
-use borrow.Author.Rules.{rules}
 use Rattle.history.proofs.field_at.Goals as goal
 
 pub returns-then-mode-bit-eq1 : goal.returns-then-mode-bit-eq1

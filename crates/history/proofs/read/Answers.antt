@@ -31,7 +31,7 @@ returns-in-4 c = simp (sym c.in-Value.ensures, c.in-4.is, c.summary_at.ensures)
 
 pub returns-in_default-code : goal.returns-in_default-code
 unfolding event_at arguments_at then
-returns-in_default-code c = 
+returns-in_default-code c =
     let no = c.in_default-code.in_default-code-own.rest in
     simp (
       sym c.in-Value.ensures,

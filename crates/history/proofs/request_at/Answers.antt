@@ -10,7 +10,7 @@ returns-in_default c = simp (c.refusal_of.ensures, c.in_default.is, sym c.in_def
 
 pub returns-in_default-d1 : goal.returns-in_default-d1
 unfolding request_at then
-returns-in_default-d1 c = 
+returns-in_default-d1 c =
     simp (
       c.refusal_of-in_default-d1.ensures,
       c.in_default-d1.is,
@@ -21,7 +21,7 @@ returns-in_default-d1 c =
 
 pub returns-in_default-d2 : goal.returns-in_default-d2
 unfolding request_at then
-returns-in_default-d2 c = 
+returns-in_default-d2 c =
     simp (
       c.refusal_of-in_default-d2.ensures,
       c.in_default-d2.is,
@@ -33,7 +33,7 @@ returns-in_default-d2 c =
 
 pub returns-in_default-d3 : goal.returns-in_default-d3
 unfolding request_at then
-returns-in_default-d3 c = 
+returns-in_default-d3 c =
     simp (
       c.refusal_of-in_default-d3.ensures,
       c.in_default-d3.is,
@@ -46,7 +46,7 @@ returns-in_default-d3 c =
 
 pub returns-in_default-d4 : goal.returns-in_default-d4
 unfolding request_at then
-returns-in_default-d4 c = 
+returns-in_default-d4 c =
     simp (
       c.refusal_of-in_default-d4.ensures,
       c.in_default-d4.is,
@@ -60,7 +60,7 @@ returns-in_default-d4 c =
 
 pub returns-in_default-d5 : goal.returns-in_default-d5
 unfolding request_at then
-returns-in_default-d5 c = 
+returns-in_default-d5 c =
     simp (
       c.refusal_of-in_default-d5.ensures,
       c.in_default-d5.is,
@@ -75,7 +75,7 @@ returns-in_default-d5 c =
 
 pub returns-in_default-d6 : goal.returns-in_default-d6
 unfolding request_at then
-returns-in_default-d6 c = 
+returns-in_default-d6 c =
     simp (
       c.refusal_of-in_default-d6.ensures,
       c.in_default-d6.is,
@@ -91,7 +91,7 @@ returns-in_default-d6 c =
 
 pub returns : goal.returns
 unfolding request_at then
-returns c = 
+returns c =
     simp (
       c.called.ensures,
       c.offset_of-offset.ensures,

@@ -1,11 +1,9 @@
 -- `clock::jump::jump`: each step fits its type, so that microseconds, phase and leftover are those of
 -- `jump_of`.
 use Prim.Native.Nat.{◌-◌}
-use lib.Dec.{lit<}
 use Rattle.state.proofs.Ok.{Ok, ok}
 use Rattle.clock.specs.Inner.{Within}
-use Rattle.clock.proofs.JumpLaws.{jumpReads, read_ticks, fits_passed, fits_together, fits_counted, fits_begin, wide_begin, wide_adjustment, fits_steps, fits_sums, fits_carries, fits_wholes, fits_left, fits_phase_left, fits_later, later_non_neg, fits_micros_later}
-use borrow.Author.Rules.{rules}
+use Rattle.clock.proofs.JumpLaws.{jumpReads, read_ticks, fits_together, fits_counted, fits_begin, fits_steps, fits_sums, fits_wholes, fits_left, fits_phase_left, fits_later, later_non_neg, fits_micros_later}
 use Rattle.clock.proofs.jump.jump.Goals.{Start}
 use Rattle.clock.proofs.jump.jump.Goals as goal
 

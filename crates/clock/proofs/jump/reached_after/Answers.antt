@@ -1,7 +1,6 @@
 -- `clock::jump::reached_after`: each step fits its type, so that units and leftover are those of
 -- `reached_after`.
 use Prim.Native.Nat.{◌-◌}
-use borrow.Author.Rules.{rules}
 use mir.Facts.{to_z_pos}
 use mir.Syntax.{w32}
 use Rattle.state.proofs.DeviceLaws.{fits_divisor, divisor_pos}

@@ -1,6 +1,4 @@
 -- `clock::read`: a reading, by whether the clock is in range.
-use borrow.Author.Rules.{rules}
-use borrow.Author.Tests.{not-true, not-false}
 use mathlib.Core.Path.{sym, ◌∙◌}
 use Rattle.clock.specs.Reading.{told_of, reading_refusal}
 use Rattle.clock.proofs.reading.read.Goals as goal

@@ -1,7 +1,4 @@
 -- `clock::rollover::divide`: quotient and remainder fit 32 bits, and the divisor is not 0.
-use borrow.Author.Rules.{rules}
-use native.Mathlib.Omega.{arith}
-use lib.IntN.{pos}
 use mir.Facts.{to_z-of_z, to_z_pos}
 use mir.Syntax.{w32}
 use Rattle.integers.proofs.Ranges.{within_parts}

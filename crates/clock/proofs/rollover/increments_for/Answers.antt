@@ -1,6 +1,5 @@
 -- `clock::rollover::increments_for`: the steps of the adjustment fit 32 bits, so that it is what
 -- `adjustment_for` says.
-use borrow.Author.Rules.{rules}
 use mir.Facts.{to_z-of_z, to_z_pos}
 use mir.Syntax.{w32}
 use Rattle.integers.proofs.Ranges.{within_parts}

@@ -1,5 +1,4 @@
 -- `clock::rollover::rollover`: a rollover does what `rolled_over` says, field by field.
-use borrow.Author.Rules.{rules}
 use mir.Facts.{to_z-of_z}
 use Rattle.integers.proofs.Ranges.{parts_within}
 use Rattle.state.proofs.Ok.{Ok, ok}

@@ -1,7 +1,5 @@
 -- `clock::rollover::share_of`: the share: the quotient fits 32 bits, and its divisor is not 0.
-use mir.Facts.{to_z-of_z}
 use Rattle.state.proofs.Ok.{ok}
-use Rattle.clock.proofs.RollLaws.{fits_offset, fits_share_of, fits_divisor, divisor_pos}
 use Rattle.clock.proofs.rollover.share_of.Goals as goal
 
 pub share_divisor-requires : goal.share_divisor-requires

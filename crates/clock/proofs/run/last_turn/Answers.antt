@@ -1,7 +1,5 @@
 -- `clock::run::last_turn`: a turn in the last second, by whether its last tick stays within it.
-use native.Mathlib.Omega.{arith}
-use borrow.Author.Rules.{rules}
-use Rattle.clock.proofs.RunLaws.{fewer_within, stays_turn, refused_turn}
+use Rattle.clock.proofs.RunLaws.{stays_turn, refused_turn}
 use Rattle.clock.proofs.run.last_turn.Goals as goal
 
 pub returns-then-a-lt-MICROS_PER_SECOND : goal.returns-then-a-lt-MICROS_PER_SECOND

@@ -2,13 +2,9 @@
 -- clock as it was what those still to come make of it as it is, after those that were accepted. The measure
 -- is the ticks to come.
 use mathlib.Core.Path.{◌≡◌, sym, ◌∙◌}
-use mathlib.Core.Bool.{true}
-use Prim.Native.Nat.{◌+◌, ◌-◌, ◌≤◌}
+use Prim.Native.Nat.{◌+◌, ◌-◌}
 use native.Mathlib.Omega.{arith}
-use Rattle.state.specs.State.{in_range}
-use Rattle.clock.specs.Ticks.{ran_of}
-use Rattle.clock.specs.Inner.{adds}
-use Rattle.clock.proofs.RunLaws.{adds_none, run_ends, run_goes_on, run_none, turn_some}
+use Rattle.clock.proofs.RunLaws.{run_none}
 use Rattle.clock.proofs.run.run.Goals as goal
 
 pub returns : goal.returns

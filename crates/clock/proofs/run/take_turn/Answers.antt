@@ -1,7 +1,6 @@
 -- `clock::run::take_turn`: a turn of a run, by what its last tick does.
 use mathlib.Core.Path.{◌∙◌, ap}
 use native.Mathlib.Omega.{arith}
-use borrow.Author.Rules.{rules}
 use Rattle.state.proofs.Ok.{ok}
 use Rattle.clock.specs.Rollover.{rolled_over}
 use Rattle.clock.specs.Inner.{moved_to}

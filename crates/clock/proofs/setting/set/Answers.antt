@@ -1,10 +1,8 @@
 -- `clock::set`: a setting, by whether the clock is in range and the time can be set.
-use borrow.Author.Rules.{rules}
-use borrow.Author.Tests.{not-true, not-false, leb-true}
+use borrow.Author.Tests.{leb-true}
 use mathlib.Core.Bool.{true, false}
 use mathlib.Core.Path.{◌≡◌, refl, sym, ◌∙◌}
 use Prim.Native.Nat.{◌≤◌}
-use native.Mathlib.Omega.{arith}
 use lib.Dec.{leb}
 use Rattle.integers.proofs.Ranges.{and_true, parts_within}
 use Rattle.state.specs.State.{in_range, last_second}

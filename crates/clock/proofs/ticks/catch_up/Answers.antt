@@ -2,8 +2,7 @@
 use mathlib.Core.Path.{◌≡◌, refl, sym, ◌∙◌}
 use mathlib.Core.Bool.{true}
 use native.Mathlib.Omega.{arith}
-use borrow.Author.Rules.{rules}
-use borrow.Author.Tests.{not-true, not-false, lt-ltb, le-ltb}
+use borrow.Author.Tests.{lt-ltb, le-ltb}
 use Rattle.state.specs.State.{in_range}
 use Rattle.clock.specs.Ticks.{ran_of, refused_catch_up, catch_up_of}
 use Rattle.clock.proofs.RunLaws.{catch_up_most}

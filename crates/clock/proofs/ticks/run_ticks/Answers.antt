@@ -1,7 +1,5 @@
 -- `clock::run_ticks`: a run that does not stop at a rollover.
 use mathlib.Core.Path.{sym, ◌∙◌}
-use borrow.Author.Rules.{rules}
-use borrow.Author.Tests.{not-true, not-false}
 use Rattle.clock.specs.Ticks.{ticks_of}
 use Rattle.clock.proofs.ticks.run_ticks.Goals as goal
 

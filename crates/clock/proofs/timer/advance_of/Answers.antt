@@ -1,7 +1,5 @@
 -- `clock::timer::advance_of`: the steps of a tick fit 32 bits, so that microseconds, phase and leftover are
 -- what the rules say.
-use borrow.Author.Rules.{rules}
-use lib.Dec.{lit<}
 use mir.Facts.{to_z-of_z, to_z_pos}
 use mir.Syntax.{w32}
 use native.Mathlib.Omega.{arith}

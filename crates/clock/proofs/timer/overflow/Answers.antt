@@ -1,6 +1,5 @@
 -- `clock::timer::overflow`: a tick that reaches the end of its second, by whether that is the last one.
-use borrow.Author.Rules.{rules}
-use borrow.Author.Tests.{leb-true, eq-eqb, ne_eqb}
+use borrow.Author.Tests.{eq-eqb, ne_eqb}
 use Prim.Native.Nat.{◌-◌}
 use native.Mathlib.Omega.{arith}
 use Rattle.state.proofs.Ok.{ok, ok_back}

@@ -2,7 +2,6 @@
 -- fit 32 bits.
 use mathlib.Core.Path.{◌≡◌}
 use Prim.Native.Nat.{ℕ}
-use borrow.Author.Rules.{rules}
 use lib.IntN.{pos, neg_ℤ, ◌-ℤ◌, +ℤ_idl}
 use mir.Facts.{to_z-of_z, to_z_pos}
 use mir.Syntax.{w32}

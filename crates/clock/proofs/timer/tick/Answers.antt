@@ -1,6 +1,5 @@
 -- `clock::tick`: a tick, by whether the clock is in range and whether the second rolls over.
-use borrow.Author.Rules.{rules}
-use borrow.Author.Tests.{not-true, not-false, le-leb, lt-leb}
+use borrow.Author.Tests.{lt-leb}
 use mathlib.Core.Bool.{true, false}
 use mathlib.Core.Path.{◌≡◌, sym, ◌∙◌}
 use Rattle.state.specs.State.{in_range}

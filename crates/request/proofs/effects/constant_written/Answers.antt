@@ -1,5 +1,4 @@
 -- `request::effects::constant_written`: the time constant, where it is selected.
-use borrow.Author.Rules.{rules}
 use mathlib.Core.Path.{sym, ◌∙◌}
 use Rattle.request.proofs.Accepted.{accepted}
 use Rattle.request.proofs.effects.constant_written.Goals as goal

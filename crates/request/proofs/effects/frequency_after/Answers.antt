@@ -1,6 +1,5 @@
 -- `request::effects::frequency_after`: the gain, on the frequency and the time constant that the request
 -- wrote.
-use borrow.Author.Rules.{rules}
 use mathlib.Core.Bool.{true}
 use mathlib.Core.Path.{◌≡◌, sym, ◌∙◌}
 use Rattle.integers.proofs.Ranges.{parts_within}

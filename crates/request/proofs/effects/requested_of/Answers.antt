@@ -1,5 +1,4 @@
 -- `request::effects::requested_of`: the clock with every effect, field by field.
-use borrow.Author.Rules.{rules}
 use mathlib.Core.Path.{sym, ◌∙◌}
 use Rattle.request.specs.Request.{requested}
 use Rattle.request.proofs.Accepted.{Accepted, accepted}

@@ -1,5 +1,4 @@
 -- `request::effects::status_written`: the status, where it is selected and may be written.
-use borrow.Author.Rules.{rules}
 use Rattle.request.proofs.Accepted.{accepted, status_selected}
 use Rattle.request.proofs.effects.status_written.Goals as goal
 

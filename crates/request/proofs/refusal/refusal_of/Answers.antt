@@ -1,7 +1,6 @@
 -- `request::refusal::refusal_of`: the first refusal that applies. Behind a test that does not apply the
 -- answer is what the later tests give.
-use borrow.Author.Rules.{rules}
-use borrow.Author.Tests.{not-true, not-false, lt-ltb, le-ltb}
+use borrow.Author.Tests.{lt-ltb, le-ltb}
 use mathlib.Core.Path.{◌≡◌, sym, ◌∙◌}
 use Prim.Native.Nat.{ℕ}
 use Rattle.state.specs.Refusal.{refused_mode, refused_offset, refused_frequency, refused_error, refused_status, refused_constant, refused_soon, refuse}

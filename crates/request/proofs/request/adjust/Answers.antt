@@ -1,5 +1,4 @@
 -- `request::adjust`: a request, by whether it is refused.
-use borrow.Author.Rules.{rules}
 use borrow.Author.Tests.{ne_eqb}
 use lib.Dec.{eqb}
 use mathlib.Core.Bool.{false}

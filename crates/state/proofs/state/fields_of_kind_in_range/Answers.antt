@@ -1,6 +1,5 @@
 -- `state::state::fields_of_kind_in_range`: by the kind, the ranges of its device; there is no third.
 use borrow.Author.Rules.{rules}
-use borrow.Author.Tests.{lt-leb}
 use mathlib.Core.Path.{◌≡◌, refl}
 use Prim.Native.Nat.{ℕ, zero, suc, ◌<◌}
 use native.Mathlib.Omega.{arith}

@@ -1,5 +1,4 @@
 -- `state::fresh`: the fresh clock of a kind, or of kind 0 with refusal 1.
-use borrow.Author.Rules.{rules}
 use borrow.Author.Tests.{le-leb, lt-leb}
 use Rattle.state.specs.Fresh.{fresh_of}
 use Rattle.state.proofs.state.fresh.Goals as goal

@@ -1,8 +1,7 @@
 -- `state::in_range`: the parts of the table, the kind and what depends on it behind the others.
 use mathlib.Core.Path.{◌≡◌, refl, sym, ◌∙◌}
 use mathlib.Core.Bool.{Bool, true, false, ◌&&◌, and-false}
-use borrow.Author.Rules.{rules}
-use borrow.Author.Tests.{not-true, not-false, le-leb}
+use borrow.Author.Tests.{le-leb}
 use Rattle.integers.proofs.Ranges.{tested, true_and, parts_within, parts_between, parts_bounds}
 use Rattle.state.specs.Device.{kind_range, device_of}
 use Rattle.state.specs.State.{second_range, micros_range, phase_range, offset_range, frequency_range, adjustment_range, constant_range, flag_range, interval_range, zero_unless_flag, error_range, status_range, parts_range, in_range}

@@ -1,5 +1,4 @@
 -- `summary::cells::add`: a count and a largest are put back where they were read.
-use borrow.Author.Rules.{rules}
 use Rattle.summary.specs.Summary.{with_offset}
 use Rattle.summary.proofs.cells.add.Goals as goal
 

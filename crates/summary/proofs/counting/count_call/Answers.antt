@@ -1,16 +1,14 @@
 -- `summary::counting::count_call`: an accepted request with an offset adds it, and nothing else does.
-use mathlib.Core.Path.{◌≡◌, sym, ◌∙◌, ap}
+use mathlib.Core.Path.{◌≡◌, ◌∙◌, ap}
 use mathlib.Core.Bool.{true, false}
-use Prim.Native.Nat.{◌/◌, ◌%◌}
 use native.Mathlib.Omega.{arith}
 use lib.IntN.{nat_abs}
-use borrow.Author.Rules.{rules}
-use borrow.Author.Tests.{eq-eqb, ne_eqb}
+use borrow.Author.Tests.{eq-eqb}
 use Rattle.integers.proofs.Ranges.{parts_within}
 use Rattle.state.specs.State.{within, greatest_offset}
 use Rattle.state.specs.declared.state.Clock.{Clock}
 use Rattle.state.specs.declared.outcome.Outcome.{Outcome}
-use Rattle.request.specs.Request.{mode_bits, selects_offset}
+use Rattle.request.specs.Request.{selects_offset}
 use Rattle.request.specs.declared.request.Request.{Request}
 use Rattle.request.proofs.RequestCases.{RequestCase, done, refused, request_case}
 use Rattle.event.specs.Event.{answer_of}
