@@ -48,6 +48,17 @@ module _ (ws buf : List ℕ) (at : ℕ) (room : at + length ws ≤ length buf) w
         place = end;
       }
 
+  -- a text that was copied into a part of the buffer that is as long
+  pub puts_copied : {mid : List ℕ} {q : ℕ} → mid ≡ ws → q ≡ at + length ws → Puts ws buf at (put_mid at (at + length ws - at) buf mid) q
+  puts_copied copied end =
+      let size : at + length ws - at ≡ length ws = omega arith in
+      record {
+        stores =
+            rw (size, copied, drop-drop (length ws) at buf)
+            (sym (append_assoc (take at buf) ws (drop (at + length ws) buf)) ∙ sym (sets-eq ws buf at room));
+        place = end;
+      }
+
 module _ {ws buf end : List ℕ} {at q : ℕ} (a : Puts ws buf at end q) (room : at + length ws ≤ length buf) where
   spread : end ≡ take at buf ++ (ws ++ drop (at + length ws) buf)
   spread = a.stores ∙ sets-eq ws buf at room ∙ append_assoc (take at buf) ws (drop (at + length ws) buf)

@@ -10,12 +10,12 @@ use lib.ListN.{length, length-append}
 use lib.Seq.{length-take-le}
 use borrow.Author.Tests.{lt-ltb, le-ltb, leb-true, leb-false}
 use Rattle.playback.specs.Run.{Advanced, step, run_after, lines_of}
-use Rattle.playback.specs.Filling.{longest_line, fill_refusal, GoesOn, Fills}
+use Rattle.playback.specs.Filling.{longest_line, fill_refusal, Fills}
 use Rattle.playback.specs.Inner.{Puts, Steps, Going, Made}
 use Rattle.playback.specs.declared.run.Run.{Run}
 use Rattle.playback.specs.declared.run.Filling.{Filling}
 use Rattle.playback.proofs.Buffers.{puts_none, puts_then, puts_as, puts_take, puts_drop, puts_length}
-use Rattle.playback.proofs.RunLaws.{run_append, lines_append, left, left_less, steps_less}
+use Rattle.playback.proofs.RunLaws.{run_append, lines_append, left, steps_less}
 
 -- a step by what it leads to and what it prints
 pub stepped : {s : List ℕ} {run now : Run} {buf buf' : List ℕ} {at q : ℕ} {a : Advanced} → step s run ≡ a → now ≡ a.run

@@ -1,7 +1,7 @@
 -- A call that goes on with a run: its events, and what stands at the end of the bytes.
-use mathlib.Core.Path.{◌≡◌, refl, sym, ◌∙◌}
+use mathlib.Core.Path.{◌≡◌, refl}
 use mathlib.Core.Bool.{Bool, true, false, not, ◌&&◌, ◌||◌}
-use mathlib.Core.List.{List, []}
+use mathlib.Core.List.{List}
 use mathlib.Core.Logic.{◌⊎◌, inl, inr, ⊎_elim}
 use Prim.Native.Nat.{ℕ, ◌+◌, ◌<◌, ◌≤◌}
 use native.Mathlib.Omega.{arith}
@@ -11,9 +11,9 @@ use borrow.Author.Tests.{leb-true, leb-false, ltb-true, ltb-false, not-true}
 use Rattle.integers.proofs.Ranges.{and_true}
 use Rattle.history.specs.Event.{asks_summary}
 use Rattle.summary.specs.Summary.{quarters}
-use Rattle.playback.specs.Run.{longest_history, end_of}
+use Rattle.playback.specs.Run.{longest_history}
 use Rattle.playback.specs.Filling.{longest_line, Fills}
-use Rattle.playback.specs.Inner.{standing, Made, RunsEvents, goes_on, listing, Summing, PutsQuarters, lists_on, filled_with}
+use Rattle.playback.specs.Inner.{standing, Made, RunsEvents, goes_on, listing, PutsQuarters, lists_on, filled_with}
 use Rattle.playback.specs.declared.run.Run.{Run}
 use Rattle.playback.specs.declared.run.Walk.{Walk}
 use Rattle.playback.specs.declared.run.Step.{Step}

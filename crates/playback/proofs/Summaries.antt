@@ -3,7 +3,7 @@
 use mathlib.Core.Path.{◌≡◌, refl, sym, ◌∙◌, ap}
 use mathlib.Core.Bool.{Bool, true, false, cond, ◌&&◌}
 use mathlib.Core.List.{List, [], ◌++◌, append-nil}
-use Prim.Native.Nat.{ℕ, zero, suc, ◌+◌, ◌-◌, ◌<◌, ◌≤◌}
+use Prim.Native.Nat.{ℕ, zero, suc, ◌+◌, ◌<◌, ◌≤◌}
 use native.Mathlib.Omega.{arith}
 use lib.Dec.{leb, ltb}
 use lib.ListN.{length}
@@ -14,8 +14,7 @@ use Rattle.history.specs.Event.{Found, found, refused, event_at, asks_summary}
 use Rattle.history.specs.Properties.{Past}
 use Rattle.history.specs.declared.Event.{Event}
 use Rattle.history.proofs.Extent.{event_past}
-use Rattle.summary.specs.Summary.{quarters, empty_summary}
-use Rattle.summary.specs.declared.cells.Summary.{Summary}
+use Rattle.summary.specs.Summary.{quarters}
 use Rattle.summary.proofs.Carried.{carried_is_afresh}
 use Rattle.playback.specs.Lines.{log_line, summary_line}
 use Rattle.playback.specs.Run.{Advanced, longest_history, start_of_run, past, past_quarter, run_after, lines_of}

@@ -17,7 +17,7 @@ use Rattle.clock.specs.declared.reading.Reading as shows
 use Rattle.number.specs.Reading.{leading_more, value_of, judged, number_at}
 use Rattle.number.specs.Sequence.{then}
 use Rattle.label.specs.Label.{label_of}
-use Rattle.event.specs.declared.event.Call.TheVariants.{Tick, Reading}
+use Rattle.event.specs.declared.event.Call.TheVariants.{Tick}
 use Rattle.event.specs.declared.event.Event.TheVariants.{Call as single}
 use Rattle.bounds.specs.Calls.{after_by, count_among_by, none_among_by}
 use Rattle.bounds.specs.Singly.{single_ticks, singly_from, as_events}
