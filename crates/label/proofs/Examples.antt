@@ -10,7 +10,7 @@ use Rattle.label.specs.Inner.{Shows, pair_of, pair_at, date_at}
 use Rattle.label.specs.Label.{label_of, is_sixty, clock_label}
 use Rattle.label.specs.Properties.{leap_day, last_label, one_past, inserted, no_sixty}
 use Rattle.label.specs.Properties.{AnsweredAs, Labels, WrongLabels, ShutOut}
-use Rattle.label.specs.Reading.{label, no_label, WrittenFor, ReadsAs, accepted, refused}
+use Rattle.label.specs.Reading.{label, no_label, WrittenFor, ReadsAs, refused}
 use Rattle.label.specs.Writing.{write_refusal}
 use Rattle.label.proofs.Accept.{clock_says, clock_at, clock_sound, accepts, last_day, last_day_end}
 use Rattle.label.proofs.Bytes.{Says}

@@ -129,9 +129,9 @@ pub(crate) fn put_label(seconds: u32, out: &mut [u8])
     ensures { out.new ≡ label_of seconds Bool.false ++ drop label_size out.old }
 {
     let date = date_text(seconds);
-    bytes::copy(&date, out);
+    out[..11].copy_from_slice(&date);
     let time = time_text(seconds);
-    bytes::copy(&time, &mut out[11..]);
+    out[11..20].copy_from_slice(&time);
 }
 
 // Writes 60 over the seconds of a label whose second is a day's last.
