@@ -27,7 +27,7 @@ use Rattle.record.specs.declared.groups.Update.{Update}
 use Rattle.record.specs.declared.save.Saved.{Saved}
 use Rattle.record.proofs.SavingLaws.{out_of_range, too_short, stored}
 use Rattle.record.proofs.FieldSizes.{version_small}
-use Rattle.record.proofs.Saying.{PartsSuit, update_parts, kind_sound, parts_sound, choice, choice_clock, ahead, version_of, flag_of, last_of, places_picked, said}
+use Rattle.record.proofs.Saying.{PartsSuit, update_parts, kind_sound, parts_sound, choice, choice_clock, ahead, version_chosen, flag_of, last_of, places_picked, said}
 use Rattle.record.proofs.Refusals.{refusal_known}
 
 -- ---- what was written is read
@@ -64,8 +64,8 @@ whole_chosen : (s : List ℕ) (k : Choice record_layout) → s ≡ bytes_of_all 
 unfolding record_in numbers_in
 whole_chosen s k e =
     let c = stands record_layout k in
-    let written : s ≡ record_in (version_of k) c (flag_of k) (last_of k) = e ∙ ap (λ (ns : List ℕ). bytes_of_all (written record_layout ns)) (places_picked k) in
-    let first : version_of s ≡ version_of k = ap version_of written ∙ version_first (version_of k) c (flag_of k) (last_of k) (said k).known in
+    let written : s ≡ record_in (version_chosen k) c (flag_of k) (last_of k) = e ∙ ap (λ (ns : List ℕ). bytes_of_all (written record_layout ns)) (places_picked k) in
+    let first : version_of s ≡ version_chosen k = ap version_of written ∙ version_first (version_chosen k) c (flag_of k) (last_of k) (said k).known in
     record { flag = flag_of k; last = last_of k; says = rw first (said k); written = rw first written }
 
 whole_found : (s : List ℕ) → Bytes s → (x : Outcome Clock) → read_from record_layout s 0 ≡ x → (restored x).refusal ≡ 0 → Whole s (restored x).clock

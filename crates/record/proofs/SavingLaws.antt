@@ -5,7 +5,7 @@ use mathlib.Core.List.{List, ◌++◌}
 use Prim.Native.Nat.{ℕ, ◌+◌, ◌*◌, ◌<◌, ◌≤◌}
 use native.Mathlib.Omega.{arith}
 use lib.ListN.{length, take, drop, length-append, length-drop}
-use lib.Seq.{take-length, length-take-le}
+use lib.Seq.{length-take-le}
 use borrow.Author.Tests.{lt-ltb, le-ltb}
 use Rattle.number.specs.Writing.{answered, filled}
 use Rattle.number.proofs.Buffer.{answered_room, filled_there}
@@ -38,8 +38,8 @@ drafted c blank l {w} {text} p q =
       bytes = rw (size, q) (filled_there blank 0 ws h);
     }
 
-pub copied : (buf : List ℕ) {src ws after : List ℕ} → src ≡ ws → after ≡ take (length src) src ++ drop (length src) buf → after ≡ ws ++ drop (length ws) buf
-copied buf {src} e p = p ∙ rw (take-length src, e)
+pub copied : (buf : List ℕ) {src ws : List ℕ} {n : ℕ} → src ≡ ws → n ≡ length ws → src ++ drop n buf ≡ ws ++ drop (length ws) buf
+copied buf e p = rw (e, p)
 
 -- ---- the answers
 

@@ -2,7 +2,7 @@
 -- numbers says a clock.
 use mathlib.Core.Path.{◌≡◌, refl, sym, ◌∙◌, ap}
 use mathlib.Core.Bool.{Bool, true, false, ◌&&◌, false≢true, and_assoc, and-false}
-use mathlib.Core.Bool.{and_true as and_one}
+use mathlib.Core.Bool.{and-true as and_one}
 use mathlib.Core.List.{List, ◌++◌}
 use mathlib.Core.Logic.{⊎_elim}
 use Prim.Native.Nat.{ℕ}
@@ -105,9 +105,9 @@ module _ {version : ℕ} {c : Clock} {flag last : ℕ} (w : Says version c flag 
 
 -- and every choice is the numbers of a record that says the clock
 module _ (k : Choice record_layout) where
-  abbrev pub version_of : ℕ
+  abbrev pub version_chosen : ℕ
   unfolding Choice record_layout
-  version_of = k.n
+  version_chosen = k.n
 
   abbrev pub flag_of : ℕ
   unfolding Choice record_layout
@@ -117,23 +117,23 @@ module _ (k : Choice record_layout) where
   unfolding Choice record_layout
   last_of = k.more.more.more.more.more.more.more.more.more.more.n
 
-  pub places_picked : picked record_layout k ≡ places_in version_of (stands record_layout k) flag_of last_of
+  pub places_picked : picked record_layout k ≡ places_in version_chosen (stands record_layout k) flag_of last_of
   unfolding picked stands Choice record_layout places_in
   places_picked = simp mapped_unmapped
 
-  pub said : Says version_of (stands record_layout k) flag_of last_of
+  pub said : Says version_chosen (stands record_layout k) flag_of last_of
   unfolding stands Choice record_layout
   said =
       let known = k.fits in
       let kind = k.more.fits in
       let flag = k.more.more.more.more.more.more.more.more.more in
-      let update = kept_sound version_of flag_of last_of flag.fits flag.more.fits in
+      let update = kept_sound version_chosen flag_of last_of flag.fits flag.more.fits in
       let parts = flag.more.more.more.more.more in
       let remainder = rw (sym (mapped_unmapped parts.n)) at parts.fits in
       let leftover = rw (sym (mapped_unmapped parts.more.n)) at parts.more.fits in
       record {
         known = known;
-        sound = sym (allowed version_of (stands record_layout k) flag_of last_of known kind flag.fits flag.more.fits update (remainder, leftover)) ∙ ap (allows record_layout) (sym places_picked) ∙ picked_allowed record_layout k;
+        sound = sym (allowed version_chosen (stands record_layout k) flag_of last_of known kind flag.fits flag.more.fits update (remainder, leftover)) ∙ ap (allows record_layout) (sym places_picked) ∙ picked_allowed record_layout k;
         kind = kind;
         flagged = flag.fits;
         ranged = flag.more.fits;

@@ -10,7 +10,6 @@ use borrow.Author.Tests.{eqb-true}
 use Rattle.number.specs.Form.{bytes_of, bytes_from, bytes_of_all}
 use Rattle.number.specs.Layout.{mapped_range, written}
 use Rattle.number.specs.Mapping.{mapped, unmapped}
-use Rattle.number.proofs.Layouts.{known}
 use Rattle.number.proofs.Mapping.{unmapped_mapped}
 use Rattle.state.specs.Device.{kind256, device_of}
 use Rattle.state.specs.State.{parts_range}

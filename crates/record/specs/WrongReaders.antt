@@ -6,7 +6,7 @@ use Rattle.state.specs.State.{fresh_clock}
 use Rattle.state.specs.declared.state.Clock.{Clock}
 use Rattle.record.specs.Layout.{record_in, record_of}
 use Rattle.record.specs.Reading.{reading_of, accepted, refused_with}
-use Rattle.record.specs.Saving.{saving_of, buffer_after}
+use Rattle.record.specs.Saving.{saving_of}
 use Rattle.record.specs.Properties.{Reader, Writer, ReadsBack, NothingFollows, WritesNewest, OneForm, OneNewest}
 use Rattle.record.specs.Properties.{Version1, Version2, Version3, RefusedIsFresh, ExactlyWhen, SavedIsKept}
 

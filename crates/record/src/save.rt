@@ -36,7 +36,7 @@ pub fn write(c: Clock, buf: &mut [u8]) -> Saved
             length: 0,
         };
     }
-    bytes::copy(&text[..n], buf);
+    buf[..n].copy_from_slice(&text[..n]);
     Saved {
         refusal: 0,
         length: n,
