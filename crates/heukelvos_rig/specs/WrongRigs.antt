@@ -1,5 +1,5 @@
 -- Rigs for C that are shut out. Each follows the rules but for what is said of it.
-use Rattle.std.specs.Prelude.{cond, ℕ, eqb, set}
+use Rattle.std.specs.Prelude.{cond, eqb, set}
 use Rattle.state.specs.Device.{kind256}
 use Rattle.state.specs.State.{fresh_clock}
 use Rattle.event.specs.declared.event.Call.TheVariants.{Tick}
