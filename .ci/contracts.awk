@@ -23,13 +23,11 @@ in_names {
     next
 }
 
-# A name that a file brings from a specs/ folder: Rattle·CRATE.specs.FILE.NAME, or in the crate itself
-# Rattle·CRATE·specs.specs.FILE.NAME.
+# A name that a file brings from a specs/ folder: Rattle.CRATE.specs.FILE.NAME.
 $1 == "ghost" {
     path = $6
-    if (index(path, "Rattle·") != 1) next
-    path = substr(path, length("Rattle·") + 1)
-    sub(/·specs\.specs\./, ".specs.", path)
+    if (index(path, "Rattle.") != 1) next
+    path = substr(path, length("Rattle.") + 1)
     if (sub(/\.specs\./, ".", path)) brought[file_of($3), $5] = path
     next
 }
@@ -106,10 +104,14 @@ function defines(word,    path) {
     return (path in is_definition) && path !~ /^[A-Za-z_0-9]*\.Inner\./
 }
 
+# `limits.phase.lower` is said by the definition `limits`.
 function has_definition(text,    n, i, list) {
     gsub(/[^A-Za-z0-9_'.-]/, " ", text)
     n = split(text, list, " ")
-    for (i = 1; i <= n; i++) if (defines(list[i])) return 1
+    for (i = 1; i <= n; i++) {
+        sub(/\..*/, "", list[i])
+        if (defines(list[i])) return 1
+    }
     return 0
 }
 
@@ -156,8 +158,8 @@ function judge_equation(text, left, right, result,    head, of) {
     else if (has(left, result) && has(right, result)) complain("says nothing of its result but by itself: " text)
     else if (!has_definition(right)) complain("says by no definition of specs/ what a thing is: " text)
     else if (left == result || (defines(head) && bare(of) == result)) told = 1
-    else if (left ~ /^now \([a-z_0-9]+ \.exit\)$/) lent_is_told(left)
-    else if (left ~ /^← ⟦[A-Z_0-9]+⟧ \.entry$/) return
+    else if (left ~ /^[a-z_0-9]+\.new$/) lent_is_told(left)
+    else if (left ~ /^[A-Z][A-Z_0-9]*$/ && !defines(left)) return
     else complain("promises neither its result, whole, nor what remains of a thing lent, nor a constant: " text)
 }
 
@@ -172,7 +174,7 @@ function judge_relation(text, result,    head) {
     if (!defines(head)) complain("has a promise that is no equation, no order and no relation of specs/: " text)
     else if (!has_parameter(substr(text, length(head) + 1)))
         complain("says nothing of its result but by itself: " text)
-    else if (!has(text, result) && text !~ /\.exit\)/) complain("does not name its result: " text)
+    else if (!has(text, result) && text !~ /\.new([^A-Za-z0-9_]|$)/) complain("does not name its result: " text)
     else {
         if (substr(text, length(text) - length(result)) == " " result || index(text, " " result " ")) told = 1
         lent_is_told(text)
@@ -180,24 +182,15 @@ function judge_relation(text, result,    head) {
 }
 
 function lent_is_told(text,    name) {
-    for (name in lent) if (index(text, "(" name " .exit)")) remains[name] = 1
+    for (name in lent) if (has(text, name ".new")) remains[name] = 1
 }
 
-# 'λ r. ⌜ .. ⌝' or 'λ r. do ⌜ .. ⌝'
-function judge_clause(text,    result, p) {
-    text = trim(text)
-    result = text
-    if (!sub(/^λ */, "", result) || !match(result, /^[A-Za-z_][A-Za-z_0-9]*\. */))
-        return complain("has a clause of no known form: " text)
-    text = trim(substr(result, RLENGTH + 1))
-    result = substr(result, 1, RLENGTH)
-    sub(/\. *$/, "", result)
-    sub(/^do +/, "", text)
-    if (parts_at("⌜", text, p) != 2 || p[1] != "" || parts_at("⌝", p[2], p) != 2 || p[2] != "")
-        return complain("has a clause that is not one ⌜ .. ⌝: " text)
+# What stands between the braces of an `ensures`.
+function judge_clause(text) {
+    if (sub(/^\*/, "", text)) return complain("has a clause with a star, which is of memory: " trim(text))
     waiting = 1
-    later[1] = p[1]
-    while (waiting) judge(later[waiting--], result == "_" ? "\001" : result)
+    later[1] = text
+    while (waiting) judge(later[waiting--], "result")
 }
 
 function judge_function(    n, field, i, with_result, clauses, before) {
@@ -208,6 +201,7 @@ function judge_function(    n, field, i, with_result, clauses, before) {
     with_result = read_signature(field[7])
     split(field[6], clauses, " ")
     if (clauses[4] > 0) complain("has a requires")
+    if ("result" in parameter) complain("has a parameter named result")
     if (clauses[2] == 0) return complain("has no ensures")
     told = 0
     split("", remains)

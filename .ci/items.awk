@@ -7,7 +7,7 @@
 #   NAME         the item's name, TYPE::NAME for a method or a variant; for a use or a ghost use the name that it brings
 #   REST         for a function 'ensures N requires N', the number of its clauses of each kind; for a use the path that it names, for a
 #                ghost use with its dots. A function has more fields: its parameters and result, and then each ensures, the text
-#                between its braces
+#                between its braces, with a `*` before it where the clause has a star
 #
 # It reads files by name, crates/NAME/src/*.rt; comments, strings and what stands in bodies is passed over. A file whose braces do not
 # match is not understood: its line is 'lost FILE', and the exit status is 1.
@@ -138,13 +138,14 @@ function type_of_impl(    i, angles, name) {
     return name
 }
 
-# Whether the head ends in a clause's word, which may have a name behind it: `ensures {`, `ensures kept {`. It is counted and taken off.
+# Whether the head ends in a clause's word, which may have a star and a name behind it: `ensures {`, `ensures kept {`, `ensures* {`. It
+# is counted and taken off.
 function clause(    i) {
-    for (i = heads; i >= heads - 1; i--) {
-        if (head[i] !~ /^(ensures|requires|ghost)$/) continue
+    for (i = heads; i >= heads - 2 && i > 0; i--) {
+        if (head[i] !~ /^(ensures|requires|ghost)$/ || (i < heads - 1 && head[i + 1] != "*")) continue
         if (head[i] == "ensures") {
             ensures++
-            said = said "\t"
+            said = said "\t" (head[i + 1] == "*" && i < heads ? "*" : "")
             saying = 1
         }
         if (head[i] == "requires") requires++
@@ -233,6 +234,8 @@ function take() {
         if (heads == 0) place = FILENAME ":" FNR
         if (word == "fn" || word == "struct" || word == "enum") place = FILENAME ":" FNR
         head[++heads] = word
+        # an attribute of the whole file, `#![..]`, is of no item
+        if (word == "]" && brackets == 0 && head[1] == "#" && head[2] == "!") fresh_head()
     }
 }
 

@@ -8,10 +8,10 @@ plant() { # ROOT-FILE
     echo 'one: # the only one' >"$work/planted/crates.txt"
     {
         cat
-        echo 'ghost use Rattle·one·specs.specs.Said.{pair, same, most, told, Related, Small, Kept};'
-        echo 'ghost use Rattle·one.specs.Inner.{within};'
-        echo 'ghost use Rattle·one.proofs.Laws.{law};'
-        echo 'ghost use lib.ListN.{length};'
+        echo 'ghost use Rattle.one.specs.Said.{pair, same, most, told, Related, Small, Kept};'
+        echo 'ghost use Rattle.one.specs.Inner.{within};'
+        echo 'ghost use Rattle.one.proofs.Laws.{law};'
+        echo 'ghost use Rattle.std.specs.Prelude.{length};'
     } >"$work/planted/crates/one/src/$1"
     cat >"$work/planted/crates/one/specs/Said.antt" <<'ANTT'
 abbrev pub pair : ℕ → List ℕ
@@ -35,21 +35,23 @@ complains() { # COMPLAINT
 }
 
 sound_functions='
+#![tactic(auto)]
+
 pub fn sound(x: u8) -> [u8; 2]
-    ensures { λ r. ⌜ r ≡ pair x { x } ⌝ }
+    ensures { result ≡ pair x { x } }
 {
     let brace = b"}";
     [x, x]
 }
 
 fn private(x: u8) -> u8
-    requires { ⌜ x < 9 ⌝ }
+    requires { x < 9 }
 {
     x
 }
 
 pub(crate) fn within(x: u8) -> u8
-    requires { ⌜ x < 9 ⌝ }
+    requires { x < 9 }
 {
     x
 }
@@ -64,23 +66,23 @@ accepted() {
 
 no_ensures() {
     { printf '%s' "$sound_functions"; printf 'pub fn bare(x: u8) -> u8 {\n    x\n}\n'; } | plant lib.rt
-    complains 'lib.rt:20: bare is public and has no ensures'
+    complains 'lib.rt:22: bare is public and has no ensures'
 }
 
 # The word in a comment, a string or another function's clause is no clause.
 only_a_comment() {
     plant lib.rt <<'RT' && complains 'lib.rt:3: bare is public and has no ensures' || return 1
 // It ensures { that nothing is said }.
-// ensures { λ r. ⌜ r ≡ x ⌝ }
-pub fn bare(x: u8) -> u8 // ensures { λ r. ⌜ r ≡ x ⌝ }
-/* ensures { λ r. ⌜ r ≡ x ⌝ } */
+// ensures { result ≡ x }
+pub fn bare(x: u8) -> u8 // ensures { result ≡ x }
+/* ensures { result ≡ x } */
 {
     let said = b"ensures { }";
     x
 }
 
 fn next(x: u8) -> u8
-    ensures { λ r. ⌜ r ≡ x ⌝ }
+    ensures { result ≡ x }
 {
     x
 }
@@ -88,37 +90,37 @@ RT
     plant lib.rt <<'RT' && complains 'lib.rt:2: bare is public and has no ensures'
 const WORD: &[u8] = b"{ \" //";
 pub fn bare(x: u8) -> u8 { let quote = b'"'; let open = b'{'; x }
-pub fn sound(x: u8) -> u8 ensures { λ r. ⌜ r ≡ same x ⌝ } { let quote = b'\''; x }
+pub fn sound(x: u8) -> u8 ensures { result ≡ same x } { let quote = b'\''; x }
 RT
 }
 
 with_requires() {
     plant lib.rt <<'RT' && complains 'lib.rt:1: asks is public and has a requires' || return 1
 pub fn asks(x: u8) -> u8
-    requires { ⌜ x < 9 ⌝ }
-    ensures { λ r. ⌜ r ≡ same x ⌝ }
+    requires { x < 9 }
+    ensures { result ≡ same x }
 {
     x
 }
 RT
     plant lib.rt <<'RT' && complains 'lib.rt:1: asks is public and has a requires'
-pub fn asks(x: u8) -> u8 ensures same { λ r. ⌜ r ≡ same x ⌝ } requires
-small { ⌜ x < 9 ⌝ } { x }
+pub fn asks(x: u8) -> u8 ensures same { result ≡ same x } requires
+small { x < 9 } { x }
 RT
 }
 
 exported() {
     plant lib.rt <<'RT' && complains 'lib.rt:2: given is public and has no ensures' || return 1
-#[no_mangle]
+#[unsafe(no_mangle)]
 pub extern "C" fn given(x: u8) -> u8 {
     x
 }
 RT
     plant lib.rt <<'RT' && complains 'lib.rt:2: given is public and has a requires' || return 1
-#[no_mangle]
+#[unsafe(no_mangle)]
 pub extern "C" fn given(x: u8) -> u8
-    requires { ⌜ x < 9 ⌝ }
-    ensures { λ r. ⌜ r ≡ same x ⌝ }
+    requires { x < 9 }
+    ensures { result ≡ same x }
 {
     x
 }
@@ -138,7 +140,7 @@ pub struct Cell {
 
 impl Cell {
     pub fn sound(self) -> u8
-        ensures { λ r. ⌜ r ≡ same (self .value) ⌝ }
+        ensures { result ≡ same self.value }
     {
         self.value
     }
@@ -171,7 +173,7 @@ nothing_seen() {
 
 # A file that is not understood is no success either.
 not_understood() {
-    printf 'pub fn sound()\n    ensures { λ r. ⌜ r ≡ x ⌝ \n{\n}\n' | plant lib.rt
+    printf 'pub fn sound()\n    ensures { result ≡ x \n{\n}\n' | plant lib.rt
     status_of .ci/contracts "$work/planted"
     refused_with 2 'items: it is not understood: crates/one/src/lib.rt'
 }
@@ -179,16 +181,16 @@ not_understood() {
 # Each form that a contract may have, one function each.
 honest_forms() {
     plant lib.rt <<'RT'
-pub fn a(x: u8) -> u8 ensures { λ q. ⌜ q ≡ length (pair (x / most)) .0 ⌝ } { x }
-pub fn b(x: u8) -> u8 ensures { λ r. ⌜ told r ≡ same x ⌝ } { x }
-pub fn c(x: u8) -> u8 ensures { λ r. ⌜ Related x r ⌝ } ensures { λ r. ⌜ r .0 ≤ x ⌝ } { x }
+pub fn a(x: u8) -> u8 ensures { result ≡ (length (pair (x / most))).0 } { x }
+pub fn b(x: u8) -> u8 ensures { told result ≡ same x } { x }
+pub fn c(x: u8) -> u8 ensures related { Related x result } ensures least { result.0 ≤ x } { x }
 pub fn d(x: &mut u8) -> u8
-    ensures { λ r. ⌜ (r ≡ same (now (x .entry)))
-        × (now (x .exit) ≡ same (now (x .entry)) .0)
-        × Kept (r .0) (now (x .exit)) ⌝ }
+    ensures { (result ≡ same x.old)
+        × (x.new ≡ (same x.old).0)
+        × Kept result.0 x.new }
 { 0 }
-pub fn e(x: &mut [u8], y: &[u8]) ensures { λ _. ⌜ Related (now (x .entry)) (now (x .exit)) ⌝ } { }
-pub fn f() -> u8 ensures { λ r. ⌜ r ≡ most ⌝ } ensures { λ _. do ⌜ (← ⟦MOST⟧ .entry) ≡ most ⌝ } { 4 }
+pub fn e(x: &mut [u8], y: &[u8]) ensures { Related x.old x.new } { }
+pub fn f() -> u8 ensures value { result ≡ most } ensures constant { MOST ≡ most } { 4 }
 RT
     status_of .ci/contracts "$work/planted"
     [ "$status" -eq 0 ] && grep -q '^contracts: 6 public functions, ' "$work/out" || shown "not accepted"
@@ -200,35 +202,37 @@ empty_forms() {
         printf 'pub fn asks%s %s { x }\n' "$head" "$clauses" | plant lib.rt
         complains "lib.rt:1: asks is public and $why" || return 1
     done <<'ROWS'
-(x: u8) -> u8|ensures { λ r. ⌜ r ≡ r ⌝ }|says of a thing that it is itself: r ≡ r
-(x: u8) -> u8|ensures { λ r. ⌜ same x ≡ same x ⌝ }|says of a thing that it is itself: same x ≡ same x
-(x: u8) -> u8|ensures { λ r. ⌜ r ≡ same r ⌝ }|says nothing of its result but by itself: r ≡ same r
-(x: u8) -> u8|ensures { λ r. ⌜ told r ≡ same (r .0) ⌝ }|says nothing of its result but by itself: told r ≡ same (r .0)
-(x: u8) -> u8|ensures { λ r. ⌜ r ≡ same x ⌝ } ensures { λ r. ⌜ r ≤ r ⌝ }|says nothing of its result but by itself, or does not name it: r ≤ r
-(x: u8) -> u8|ensures { λ r. ⌜ r ≤ r ⌝ }|says nothing of its result but by itself, or does not name it: r ≤ r
-(x: u8) -> u8|ensures { λ r. ⌜ x < 9 ⌝ }|says nothing of its result but by itself, or does not name it: x < 9
-(x: u8) -> u8|ensures { λ r. ⌜ r ≤ x ⌝ }|says by no definition of specs/ what its result is
-(x: u8) -> u8|ensures { λ r. ⌜ Small r ⌝ }|says nothing of its result but by itself: Small r
-(x: u8) -> u8|ensures { λ r. ⌜ Small x ⌝ }|does not name its result: Small x
-(x: u8) -> u8|ensures { λ r. ⌜ Related x (r .0) ⌝ }|says by no definition of specs/ what its result is
-(x: u8) -> u8|ensures { λ _. ⌜ same x ≡ most ⌝ }|promises neither its result, whole, nor what remains of a thing lent, nor a constant: same x ≡ most
-(x: u8) -> u8|ensures { λ r. ⌜ r .0 ≡ same x ⌝ }|promises neither its result, whole, nor what remains of a thing lent, nor a constant: r .0 ≡ same x
-(x: u8) -> u8|ensures { λ r. ⌜ r ≡ x ⌝ }|says by no definition of specs/ what a thing is: r ≡ x
-(x: u8) -> u8|ensures { λ r. ⌜ r ≡ 0 ⌝ }|says by no definition of specs/ what a thing is: r ≡ 0
-(x: u8) -> u8|ensures { λ r. ⌜ r ≡ law x ⌝ }|says by no definition of specs/ what a thing is: r ≡ law x
-(x: u8) -> u8|ensures { λ r. ⌜ r ≡ within x ⌝ }|says by no definition of specs/ what a thing is: r ≡ within x
-(x: u8) -> u8|ensures { λ r. ⌜ r ≡ hidden ⌝ }|says by no definition of specs/ what a thing is: r ≡ hidden
-(x: u8) -> u8|ensures { λ r. ⌜ r ≡ length x ⌝ }|says by no definition of specs/ what a thing is: r ≡ length x
-(most: u8) -> u8|ensures { λ r. ⌜ r ≡ most ⌝ }|says by no definition of specs/ what a thing is: r ≡ most
-(x: u8) -> u8|ensures { λ r. ⌜ (r ≡ same x) × (r ≡ r) ⌝ }|says of a thing that it is itself: r ≡ r
-(x: u8) -> u8|ensures { λ r. ⌜ r ≡ r → r ≡ same x ⌝ }|has a promise that is no equation, no order and no relation of specs/: r ≡ r → r ≡ same x
-(x: u8) -> u8|ensures { λ r. emp }|has a clause that is not one ⌜ .. ⌝: emp
-(x: u8) -> u8|ensures { emp }|has a clause of no known form: emp
-(x: u8) -> u8|ensures { λ _. do ⌜ (← ⟦MOST⟧ .entry) ≡ most ⌝ }|says by no definition of specs/ what its result is
-(x: u8) -> u8|ensures { λ _. ⌜ ⊤ ⌝ }|has a promise that is no equation, no order and no relation of specs/: ⊤
-(x: &mut u8) -> u8|ensures { λ r. ⌜ r ≡ same (now (x .entry)) ⌝ }|does not say what remains of x
-(x: &mut u8) -> u8|ensures { λ _. ⌜ now (x .exit) ≡ most ⌝ }|says by no definition of specs/ what its result is
-(x: &mut u8) -> u8|ensures { λ r. ⌜ now (x .exit) ≡ now (x .exit) ⌝ }|says of a thing that it is itself: now (x .exit) ≡ now (x .exit)
+(x: u8) -> u8|ensures { result ≡ result }|says of a thing that it is itself: result ≡ result
+(x: u8) -> u8|ensures { same x ≡ same x }|says of a thing that it is itself: same x ≡ same x
+(x: u8) -> u8|ensures { result ≡ same result }|says nothing of its result but by itself: result ≡ same result
+(x: u8) -> u8|ensures { told result ≡ same result.0 }|says nothing of its result but by itself: told result ≡ same result.0
+(x: u8) -> u8|ensures value { result ≡ same x } ensures least { result ≤ result }|says nothing of its result but by itself, or does not name it: result ≤ result
+(x: u8) -> u8|ensures { result ≤ result }|says nothing of its result but by itself, or does not name it: result ≤ result
+(x: u8) -> u8|ensures { x < 9 }|says nothing of its result but by itself, or does not name it: x < 9
+(x: u8) -> u8|ensures { result ≤ x }|says by no definition of specs/ what its result is
+(x: u8) -> u8|ensures { Small result }|says nothing of its result but by itself: Small result
+(x: u8) -> u8|ensures { Small x }|does not name its result: Small x
+(x: u8) -> u8|ensures { Related x result.0 }|says by no definition of specs/ what its result is
+(x: u8) -> u8|ensures { same x ≡ most }|promises neither its result, whole, nor what remains of a thing lent, nor a constant: same x ≡ most
+(x: u8) -> u8|ensures { result.0 ≡ same x }|promises neither its result, whole, nor what remains of a thing lent, nor a constant: result.0 ≡ same x
+(x: u8) -> u8|ensures { result ≡ x }|says by no definition of specs/ what a thing is: result ≡ x
+(x: u8) -> u8|ensures { result ≡ 0 }|says by no definition of specs/ what a thing is: result ≡ 0
+(x: u8) -> u8|ensures { result ≡ law x }|says by no definition of specs/ what a thing is: result ≡ law x
+(x: u8) -> u8|ensures { result ≡ within x }|says by no definition of specs/ what a thing is: result ≡ within x
+(x: u8) -> u8|ensures { result ≡ hidden }|says by no definition of specs/ what a thing is: result ≡ hidden
+(x: u8) -> u8|ensures { result ≡ length x }|says by no definition of specs/ what a thing is: result ≡ length x
+(most: u8) -> u8|ensures { result ≡ most }|says by no definition of specs/ what a thing is: result ≡ most
+(x: u8) -> u8|ensures { (result ≡ same x) × (result ≡ result) }|says of a thing that it is itself: result ≡ result
+(x: u8) -> u8|ensures { result ≡ result → result ≡ same x }|has a promise that is no equation, no order and no relation of specs/: result ≡ result → result ≡ same x
+(x: u8) -> u8|ensures same { result ≡ same x } ensures* kept { emp }|has a clause with a star, which is of memory: emp
+(x: u8) -> u8|ensures* { emp }|has a clause with a star, which is of memory: emp
+(x: u8) -> u8|ensures { emp }|has a promise that is no equation, no order and no relation of specs/: emp
+(result: u8)|ensures { Related most result }|has a parameter named result
+(x: u8) -> u8|ensures { MOST ≡ most }|says by no definition of specs/ what its result is
+(x: u8) -> u8|ensures { ⊤ }|has a promise that is no equation, no order and no relation of specs/: ⊤
+(x: &mut u8) -> u8|ensures { result ≡ same x.old }|does not say what remains of x
+(x: &mut u8) -> u8|ensures { x.new ≡ most }|says by no definition of specs/ what its result is
+(x: &mut u8) -> u8|ensures { x.new ≡ x.new }|says of a thing that it is itself: x.new ≡ x.new
 ROWS
 }
 
