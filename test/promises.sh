@@ -146,7 +146,7 @@ no_crate_can_go() {
     [ "$status" -eq 0 ] || shown "not accepted" || return 1
     rm -r "$promised/crates/rig_bounds"
     sed '/^rig_bounds:/d' crates.txt >"$promised/crates.txt"
-    misses 'docs/PROMISES.md' && grep -q 'there is no theorem `demand3-of-rig` in crates/rig_bounds/proofs/Theorem.antt' "$work/out"
+    misses 'docs/PROMISES.md' && grep -q 'there is no theorem `demand3_of_rig` in crates/rig_bounds/proofs/Theorem.antt' "$work/out"
 }
 
 tell_awks "promises: all that is there" promises_kept
