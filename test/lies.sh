@@ -1,6 +1,7 @@
 # .ci/lies on a planted repository, with a stand-in for `rt` that judges a crate by words in its code: `wrong`
-# is refused, `unread` is a definition that can't be read, `broken` ends without a verdict, `mute` says
-# nothing, and `sticky` is refused from then on.
+# is refused, `unread` makes a definition that can't be read and `uncoded` no code, `broken` ends without a
+# verdict, `mute` says nothing, and `sticky` is refused from then on. As `rt must-fail` it judges an edit by the
+# same words in its `new:` line.
 # shellcheck shell=sh
 
 liar=$work/liar
@@ -14,13 +15,14 @@ plant_edit() { # PLACE NEW [REASON]
 
 plant_liar() {
     rm -rf "$liar"
-    mkdir -p "$liar/.ci" "$liar/kit" "$liar/tmp" "$liar/target/stamp" "$liar/target/rlib"
+    mkdir -p "$liar/.ci" "$liar/kit" "$liar/tmp"
     cp .ci/lies .ci/edits.sh "$liar/.ci/"
-    printf 'one:\ntwo: one\n' >"$liar/crates.txt"
+    printf 'one staticlib:\ntwo: one\n' >"$liar/crates.txt"
     for name in one two; do
-        mkdir -p "$liar/crates/$name/src" "$liar/crates/$name/specs" "$liar/crates/$name/proofs"
+        mkdir -p "$liar/crates/$name/src" "$liar/crates/$name/specs" "$liar/crates/$name/proofs" "$liar/crates/$name/out"
         echo fine >"$liar/crates/$name/src/lib.rt"
         echo also >"$liar/crates/$name/specs/Said.antt"
+        echo kept >"$liar/crates/$name/out/work"
     done
     plant_edit one/lies/first wrong
     plant_edit one/lies/second wrong
@@ -28,23 +30,37 @@ plant_liar() {
     plant_edit one/must-fail/third wrong
     cat >"$liar/kit/rt" <<'RT'
 #!/bin/sh
-crate=$PWD/crates/$2
-echo "$1 $2 $(cat "$crate/src/lib.rt") $(cat "$crate/specs/Said.antt") LC_ALL=$LC_ALL" >>"$LIAR/calls"
-if [ "$1" = must-fail ]; then
-    for edit in "$crate"/must-fail/*.edit; do
-        label=$(basename "$edit" .edit)
-        mkdir -p "target/must-fail/$2/$label"
-        echo 'proofs/Law.antt:1:1: error: no' >"target/must-fail/$2/$label/.log"
-        if grep -q '^new: wrong' "$edit"; then echo logic=not-proved; else echo logic=proved; fi >>"target/must-fail/$2/$label/.log"
+command=$1
+case $command in
+must-fail)
+    echo "$* LC_ALL=$LC_ALL" >>"$LIAR/calls"
+    while [ $# -gt 1 ]; do shift; done
+    for edit in "crates/$1/must-fail"/*.edit; do
+        told="rt: must-fail $1/${edit##*/}:"
+        case $(sed -n 's/^new: //p' "$edit") in
+        wait) (trap ': >"$LIAR/heard"; exit 1' TERM; : >"$LIAR/ready"; sleep 30 & wait) ;;
+        wrong) echo "$told refused, as it must be: note: src/lib.rt:3:7: it is not proved" ;;
+        told) echo "$told refused, as it must be: proofs/Law.antt:3:7: error: \`law\`: it does not follow" ;;
+        first) echo "$told refused, as it must be: ./specs/Said.antt:2:5: error: \`x\` was not admitted" ;;
+        named) echo "$told refused, as it must be (only because a proof file names what the edit took away): proofs/f/Law.antt:1:1: no" ;;
+        unread) echo "$told BAD EDIT: the prover cannot read the edited text: ./specs/Said.antt:2:5: error: \`x\` is not in scope" ;;
+        untyped) echo "$told refused, as it must be: ./specs/Said.antt:2:5: error: \`x\`: it has another type" ;;
+        uncoded) echo "$told refused, as it must be: src/lib.rt:2:5: error: it is no code" ;;
+        limit) echo "$told refused, as it must be (only by a limit of the prover, which gave no verdict): src/lib.rt:1:1" ;;
+        broken) echo "$told NOT TRIED: its check was killed" ;;
+        mute) ;;
+        *) echo "$told NOT REFUSED: the crate is still proved with this edit" ;;
+        esac
     done
-    echo "rt: told"
     exit 1
-fi
-case $(cat "$crate/src/lib.rt") in
+    ;;
+esac
+echo "$command ${PWD##*/} $(cat src/lib.rt) $(cat specs/Said.antt) LC_ALL=$LC_ALL" >>"$LIAR/calls"
+case $(cat src/lib.rt) in
 *wait*) (trap ': >"$LIAR/heard"; exit 1' TERM; : >"$LIAR/ready"; sleep 30 & wait) ;;
-*wrong*) echo "$crate/proofs/Law.antt:3:7: error: it does not follow"; echo logic=not-proved; exit 1 ;;
-*unread*) echo "$crate/specs/Said.antt:2:5: error: \`x\` is not in scope"; echo logic=not-proved; exit 1 ;;
-*uncoded*) echo "$crate/src/lib.rt:2:5: error: it is no code"; echo logic=not-proved; exit 1 ;;
+*wrong*) echo "note: src/lib.rt:3:7: it is not proved"; echo logic=not-proved; exit 1 ;;
+*unread*) echo "./specs/Said.antt:2:5: error: \`x\` is not in scope"; echo logic=not-proved; exit 1 ;;
+*uncoded*) echo "src/lib.rt:2:5: error[unknown-name]: it is no code"; exit 1 ;;
 *broken*) echo "rattle: out of memory"; exit 2 ;;
 *mute*) exit 0 ;;
 *half*) echo logic=not-proved; exit 3 ;;
@@ -58,13 +74,12 @@ RT
 
 # What stands in the repository, but for what the stand-in writes.
 sums_of_liar() {
-    (cd "$liar" && find crates crates.txt .ci target -type f | sort | xargs cksum)
+    (cd "$liar" && find crates crates.txt .ci -type f | sort | xargs cksum)
 }
 
 run_liar() { # WORDS...
     sums_of_liar >"$work/before"
-    LIAR=$liar PATH=$liar/kit:$PATH TMPDIR=$liar/tmp LC_ALL=C.UTF-8 RT_JOBS=${RT_JOBS:-1} \
-        status_of "$liar/.ci/lies" "$@" </dev/null
+    LIAR=$liar PATH=$liar/kit:$PATH TMPDIR=$liar/tmp LC_ALL=C.UTF-8 status_of "$liar/.ci/lies" "$@" </dev/null
     sums_of_liar >"$work/after"
     cmp -s "$work/before" "$work/after" && [ -z "$(ls "$liar/tmp")" ] ||
         shown "the repository is changed, or something is left behind"
@@ -79,16 +94,16 @@ liar_ended() { # STATUS LINE
 lies_refused() {
     plant_liar
     run_liar && liar_ended 0 '5 passed, 0 failed' || return 1
-    sed 's/[0-9]* s)/s)/' "$work/out" >"$work/told.out"
-    diff - "$work/told.out" <<'SAID' || return 1
-lies: one before its edits: proved, as it must be (s)
-lies: one/harmless/second: proved, as it must be (s)
-lies: one/lies/first: refused, as it must be (first at proofs/Law.antt:3:7; s)
-lies: one/lies/second: refused, as it must be (first at proofs/Law.antt:3:7; s)
-lies: one after its edits: proved, as it must be (s)
+    diff - "$work/out" <<'SAID' || return 1
+lies: one before its edits: proved, as it must be
+lies: one/harmless/second: proved, as it must be
+lies: one after its edits: proved, as it must be
+lies: one/lies/first: refused, as it must be (first at src/lib.rt:3:7)
+lies: one/lies/second: refused, as it must be (first at src/lib.rt:3:7)
 5 passed, 0 failed
 SAID
-    printf 'dev one %s also LC_ALL=C\n' fine good wrong wrong fine | diff - "$liar/calls"
+    printf '%s LC_ALL=C\n' 'check one fine also' 'check one good also' 'check one fine also' 'must-fail one' |
+        diff - "$liar/calls"
 }
 
 # Each of these is not refused as it must be, or not proved.
@@ -100,30 +115,47 @@ lies_unnoticed() {
     done <<'ROWS'
 one/lies/first|harmless|4 passed, 1 failed|one/lies/first: NOT REFUSED
 one/lies/first|unread|4 passed, 1 failed|one/lies/first: BAD EDIT: what it makes is no definition, or no code: first at specs/Said.antt:2:5
+one/lies/first|untyped|4 passed, 1 failed|one/lies/first: BAD EDIT: what it makes is no definition, or no code: first at specs/Said.antt:2:5
 one/lies/first|uncoded|4 passed, 1 failed|one/lies/first: BAD EDIT: what it makes is no definition, or no code: first at src/lib.rt:2:5
+one/lies/first|limit|4 passed, 1 failed|one/lies/first: NO VERDICT
 one/lies/first|broken|4 passed, 1 failed|one/lies/first: NO VERDICT
 one/lies/first|mute|4 passed, 1 failed|one/lies/first: NO VERDICT
-one/lies/first|half|4 passed, 1 failed|one/lies/first: NO VERDICT
-one/lies/first|sticky|4 passed, 1 failed|one after its edits: NOT PROVED
-one/harmless/second|wrong|4 passed, 1 failed|one/harmless/second: NOT PROVED
+one/harmless/second|wrong|4 passed, 1 failed|one/harmless/second: NOT PROVED: first at src/lib.rt:3:7
+one/harmless/second|unread|4 passed, 1 failed|one/harmless/second: BAD EDIT: what it makes is no definition, or no code: first at specs/Said.antt:2:5
+one/harmless/second|uncoded|4 passed, 1 failed|one/harmless/second: BAD EDIT: what it makes is no definition, or no code: first at src/lib.rt:2:5
 one/harmless/second|broken|4 passed, 1 failed|one/harmless/second: NO VERDICT
+one/harmless/second|mute|4 passed, 1 failed|one/harmless/second: NO VERDICT
+one/harmless/second|half|4 passed, 1 failed|one/harmless/second: NO VERDICT
+one/harmless/second|sticky|3 passed, 2 failed|one after its edits: NOT PROVED
 ROWS
     plant_liar
     echo 'fine, and wrong' >"$liar/crates/one/src/lib.rt"
     run_liar && liar_ended 1 '2 passed, 3 failed' && grep -q 'one before its edits: NOT PROVED' "$work/out"
 }
 
-# Several crates, side by side and by name.
+# Each of these is refused at a fact.
+lies_at_facts() {
+    for word in wrong told first named; do
+        plant_liar
+        plant_edit one/lies/first "$word"
+        run_liar && liar_ended 0 '5 passed, 0 failed' || { echo "$word"; return 1; }
+    done
+}
+
+# Several crates, and crates by name.
 lies_of_some() {
     plant_liar
     plant_edit two/lies/other wrong
     plant_edit two/harmless/other good
-    RT_JOBS=2 run_liar && liar_ended 0 '9 passed, 0 failed' || return 1
+    run_liar && liar_ended 0 '9 passed, 0 failed' || return 1
     run_liar two && liar_ended 0 '4 passed, 0 failed' && ! grep -q ' one' "$work/out" || shown "two alone" || return 1
     run_liar three && refused_with 2 'lies: crates.txt lists no crate three' || return 1
     run_liar --nothing && refused_with 2 'lies: there is no --nothing' || return 1
-    run_liar --whole && refused_with 2 'lies: --whole wants the names of crates' || return 1
-    run_liar --help && [ "$status" -eq 0 ] && grep -q '^  .ci/lies --whole NAME' "$work/out" || shown "no help"
+    run_liar --anew && refused_with 2 'lies: --anew wants the names of crates' || return 1
+    run_liar --help && [ "$status" -eq 0 ] && grep -q '^  .ci/lies --anew NAME' "$work/out" || shown "no help" || return 1
+    plant_liar
+    run_liar --anew one && liar_ended 0 '5 passed, 0 failed' && grep -qx 'must-fail --anew one LC_ALL=C' "$liar/calls" ||
+        shown "anew"
 }
 
 # The form of edits: each of these is told before anything is checked.
@@ -158,38 +190,44 @@ crates/three/lies/other.edit|# It is wrong.\n|three/lies: crates.txt does not li
 ROWS
 }
 
-# What `rt ci` left of must-fail/, and the lies from nothing.
-lies_by_log() {
+# What `rt ci` said of must-fail/.
+lies_said() {
     plant_liar
-    run_liar --logs && [ "$status" -eq 1 ] && grep -q 'one/must-fail/third: NO VERDICT' "$work/out" || shown "no log" || return 1
-    mkdir -p "$liar/target/must-fail/one/third"
-    while IFS='|' read -r wanted said; do
-        printf "$said\n" "$liar/target/must-fail/one/third" >"$liar/target/must-fail/one/third/.log"
-        run_liar --logs && [ "$status" -eq "$wanted" ] || shown "$said" || return 1
+    ok='rt: ok; handles allowed: none; must-fail edits: 1 refused, 0 bad; done in this run: 0 of the 4 proofs'
+    while IFS='|' read -r wanted said rest; do
+        printf '%s\n' 'rt: one proved' "rt: must-fail one/third.edit: $said" "${rest:-$ok}" >"$liar/said"
+        run_liar --said "$liar/said" && [ "$status" -eq "$wanted" ] || shown "$said, ${rest:-$ok}" || return 1
     done <<'ROWS'
-0|%s/proofs/Law.antt:1:1: error: no\nlogic=not-proved
-0|note: %s/src/lib.rt:1:1: no proof is found\nlogic=not-proved
-1|%s/specs/Said.antt:1:1: error: no\nlogic=not-proved
-1|logic=proved
-1|out of memory
+0|refused, as it must be: note: src/lib.rt:1:1: no proof is found
+0|refused, as it must be: proofs/Law.antt:1:1: error: no
+0|refused, as it must be
+1|refused, as it must be: ./specs/Said.antt:1:1: error: no
+1|refused, as it must be (only by a limit of the prover, which gave no verdict): proofs/Law.antt:1:1
+1|NOT REFUSED: the crate is still proved with this edit
+1|BAD EDIT: an 'old:' text is in specs/Said.antt 0 times, and not once
+1|NOT TRIED: its check was killed
+1|refused, as it must be: note: src/lib.rt:1:1: no|rt: ok; handles allowed: none; must-fail edits: 1 refused, 1 bad; done
+1|refused, as it must be: note: src/lib.rt:1:1: no|rt: ok; handles allowed: none; must-fail edits: 0 refused, 0 bad; done
+1|refused, as it must be: note: src/lib.rt:1:1: no|rt: FAILED: one
 ROWS
-    plant_liar
-    plant_edit one/lies/second good
-    run_liar --whole one && liar_ended 1 '1 passed, 1 failed' && grep -q 'one/lies/second: NOT REFUSED' "$work/out" || shown "from nothing" || return 1
-    printf 'must-fail one fine also LC_ALL=C\n' | diff - "$liar/calls"
+    echo "$ok" >"$liar/said"
+    run_liar --said "$liar/said" && [ "$status" -eq 1 ] && grep -q 'one/must-fail/third: NO VERDICT' "$work/out" || shown "nothing said" || return 1
+    [ ! -f "$liar/calls" ] || { echo "and yet something was checked"; return 1; }
+    run_liar --said "$liar/nowhere" && refused_with 2 "lies: there is no $liar/nowhere"
 }
 
 # A signal ends the check that runs and what it has started, and nothing is left behind.
-lies_signal() {
+lies_signal() { # EDIT
+    edit=$1
     # INT is ignored where a shell has started a command beside itself, so that perl sets it back
     for sent in TERM HUP $(! command -v perl >/dev/null || echo INT); do
         plant_liar
-        plant_edit one/lies/first wait
+        plant_edit "$edit" wait
         set -- "$liar/.ci/lies"
         [ "$sent" != INT ] || set -- perl -e '$SIG{INT} = "DEFAULT"; exec @ARGV' "$@"
-        LIAR=$liar PATH=$liar/kit:$PATH TMPDIR=$liar/tmp RT_JOBS=2 "$@" </dev/null >"$work/out" 2>&1 &
+        LIAR=$liar PATH=$liar/kit:$PATH TMPDIR=$liar/tmp "$@" </dev/null >"$work/out" 2>&1 &
         script=$!
-        soon test -f "$liar/ready" || { echo "$sent: rt dev was not called"; cat "$work/out"; return 1; }
+        soon test -f "$liar/ready" || { echo "$sent: rt was not called"; cat "$work/out"; return 1; }
         kill -s "$sent" "$script"
         wait "$script"
         status=$?
@@ -201,7 +239,9 @@ lies_signal() {
 
 tell "lies: refused, and their twins proved" lies_refused
 tell "lies: what is not refused at a fact" lies_unnoticed
+tell "lies: what is refused at a fact" lies_at_facts
 tell "lies: of some crates" lies_of_some
 tell "lies: the form of edits" lies_form
-tell "lies: by the logs of must-fail/, and from nothing" lies_by_log
-tell "a signal to the lies" lies_signal
+tell "lies: what is said of must-fail/" lies_said
+tell "a signal to the check of a twin" lies_signal one/harmless/second
+tell "a signal to the lies" lies_signal one/lies/first

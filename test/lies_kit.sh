@@ -9,12 +9,15 @@ lies_of_the_kit() {
     cp .ci/lies .ci/edits.sh "$liar/.ci/"
     echo 'one:' >"$liar/crates.txt"
     echo 'pub mod Said' >"$liar/crates/one/specs/Lib.antt"
-    printf 'use Prim.Native.Nat.{ℕ, _+_}\n\nabbrev pub seven : ℕ\nseven = 7\n' >"$liar/crates/one/specs/Said.antt"
+    printf 'use Rattle.std.specs.Prelude.{ℕ, ◌+◌}\n\nabbrev pub seven : ℕ\nseven = 7\n' >"$liar/crates/one/specs/Said.antt"
     cat >"$liar/crates/one/src/lib.rt" <<'CODE'
-ghost use mathlib.Core.Path.{_≡_};
-ghost use Rattle·one·specs.specs.Said.{seven};
+#![tactic(auto)]
+
+ghost use Rattle.std.specs.Prelude.{◌≡◌};
+ghost use Rattle.one.specs.Said.{seven};
+
 pub fn told() -> usize
-    ensures { λ r. ⌜ r ≡ seven ⌝ }
+    ensures { result ≡ seven }
 {
     7
 }
@@ -25,10 +28,10 @@ CODE
     printf '# Seven is six.\nfile: specs/Said.antt\nold: seven = 7\nnew: seven = 6\n' >"$liar/crates/one/lies/six.edit"
     printf '# Seven is not closed.\nfile: specs/Said.antt\nold: seven = 7\nnew: seven = (7\n' >"$liar/crates/one/lies/open.edit"
     printf '# Seven is of no crate.\nfile: src/lib.rt\nold:     7\nnew:     none::seven()\n' >"$liar/crates/one/lies/uncoded.edit"
-    TMPDIR=$liar/tmp RT_JOBS=1 timeout 600 "$liar/.ci/lies" >"$work/out" 2>"$work/said"
+    TMPDIR=$liar/tmp timeout 600 "$liar/.ci/lies" >"$work/out" 2>"$work/said"
     status=$?
     [ "$status" -eq 1 ] && [ "$(tail -n 1 "$work/out")" = '5 passed, 2 failed' ] && [ -z "$(ls "$liar/tmp")" ] &&
-        grep -q 'one/lies/open: BAD EDIT' "$work/out" && grep -q 'one/lies/uncoded: NO VERDICT' "$work/out" || shown "with the kit"
+        grep -q 'one/lies/open: BAD EDIT' "$work/out" && grep -q 'one/lies/uncoded: BAD EDIT' "$work/out" || shown "with the kit"
 }
 
 tell "lies: with the kit" lies_of_the_kit
