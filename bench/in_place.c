@@ -9,7 +9,7 @@
  *
  * tick-in-place-1024 and tick-called-1024 are the same of the 1,024 Hz recorder. On the rig every other clock is of it.
  *
- * gcc -O3 -Ic bench/in_place.c target/staticlib/libheukelvos_rig.a target/staticlib/libheukelvos.a
+ * gcc -O3 -Ic bench/in_place.c crates/heukelvos_rig/out/libheukelvos_rig.a crates/heukelvos/out/libheukelvos.a
  */
 #define main reference_main
 #include "reference.c"

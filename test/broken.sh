@@ -4,7 +4,8 @@
 # shellcheck shell=sh
 
 edits=$work/edits list=${EDITS:-test/broken.edits}
-parts='bin .ci test examples docs crates crates.txt c bench README.md CONTRIBUTING.md LICENSE'
+parts='bin .ci test examples docs crates.txt c bench README.md CONTRIBUTING.md LICENSE'
+built='replay/out/replay cross_check/out/cross_check heukelvos/out/libheukelvos.a heukelvos_rig/out/libheukelvos_rig.a'
 
 # Puts one text, which stands there once, in the place of another.
 replace() { # FILE OLD NEW
@@ -20,20 +21,24 @@ replace() { # FILE OLD NEW
 }
 
 # A copy of what the tests look at, and of the runner beside the one that an edit may break. The programs are
-# put there last, and so are not built again; nor are the libraries for C.
+# put there last, and so are not built again; nor are the libraries for C. Of the rest of an out/, which is
+# large, the kit takes what it needs from where it is.
 new_copy() {
-    mkdir -p "$copy/target/bin"
+    mkdir -p "$copy/sound"
     # shellcheck disable=SC2086
     cp -R $parts "$copy"
-    cp test/run "$copy/target/sound"
-    [ ! -d target/rlib ] || { ln -s "$top/target/rlib" "$copy/target/rlib" && cp -R target/stamp "$copy/target"; }
-    [ ! -d target/staticlib ] || cp -R target/staticlib "$copy/target"
-    cp target/bin/replay target/bin/cross_check "$copy/target/bin"
+    copy_crates "$copy"
+    cp test/run "$copy/sound/run"
+    for file in $built; do
+        [ -f "crates/$file" ] || continue
+        mkdir -p "$copy/crates/${file%/*}"
+        cp "crates/$file" "$copy/crates/$file"
+    done
 }
 
 # Runs tests on the copy, with one awk, and waits so that a signal is heard.
 tests_on_copy() { # WORD...
-    AWKS='awk' SOUND=$sound "$copy/target/sound" "$@" >"$copy.log" 2>&1 &
+    AWKS='awk' SOUND=$sound "$copy/sound/run" "$@" >"$copy.log" 2>&1 &
     tests=$!
     wait "$tests"
 }
@@ -56,14 +61,14 @@ noticed() { # FILE TEST OLD NEW
     tests_on_copy --first "$2"
     passes=$?
     cat "$1" >"$copy/$1"
-    touch "$copy/target/bin/replay"
+    touch "$copy/crates/replay/out/replay"
     [ "$passes" -ne 0 ] || { echo "test/run $2 passes"; return 1; }
     tail -n 1 "$copy.log" | grep -q ' passed, [1-9][0-9]* failed$' || { tail -n 5 "$copy.log"; return 1; }
 }
 
 # Whether the copy is what it was, so that one edit did not stand in another's way.
 put_back() {
-    for part in $parts; do diff -r "$part" "$copy/$part" || return 1; done
+    for part in $parts crates; do diff -r -x out "$part" "$copy/$part" || return 1; done
 }
 
 try_one() { # NUMBER

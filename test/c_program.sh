@@ -4,7 +4,7 @@
 # shellcheck shell=sh
 
 # No name is in both, and neither needs the other: they may be linked in any order.
-libraries='target/staticlib/libheukelvos_rig.a target/staticlib/libheukelvos.a'
+libraries='crates/heukelvos_rig/out/libheukelvos_rig.a crates/heukelvos/out/libheukelvos.a'
 
 # Every constant of the header, as 'NAME VALUE', without its prefix.
 of_header() {
@@ -61,7 +61,7 @@ wide() {
 
 there_are_libraries() {
     for library in $libraries; do
-        [ -f "$library" ] || { echo "there is no $library: run 'rt staticlib' for it"; return 1; }
+        [ -f "$library" ] || { echo "there is no $library: run 'rt lib' in its crate's folder"; return 1; }
     done
 }
 
@@ -111,7 +111,7 @@ ends_as_the_replay() {
     "$work/lent_clock" history >"$work/events" && "$work/lent_clock" lines >"$work/wanted" || return 1
     grep -qx 'tick 1000000' "$work/events" && grep -q ':60Z ' "$work/wanted" && grep -qx 'refused 3' "$work/wanted" || return 1
     bin/history bytes <"$work/events" >"$work/bytes" || return 1
-    target/bin/replay <"$work/bytes" >"$work/lines" || return 1
+    crates/replay/out/replay <"$work/bytes" >"$work/lines" || return 1
     diff "$work/lines" "$work/wanted"
 }
 
@@ -121,7 +121,7 @@ each_as_its_replay() {
         "$work/rig" history "$place" >"$work/events" && "$work/rig" lines "$place" >"$work/wanted" || return 1
         grep -q ':60Z ' "$work/wanted" && grep -qx 'refused 3' "$work/wanted" && grep -qx 'refused 17' "$work/wanted" || return 1
         bin/history bytes <"$work/events" >"$work/bytes" || return 1
-        target/bin/replay <"$work/bytes" >"$work/lines" || return 1
+        crates/replay/out/replay <"$work/bytes" >"$work/lines" || return 1
         diff "$work/lines" "$work/wanted" || { echo "the recorder at place $place"; return 1; }
     done
 }

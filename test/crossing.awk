@@ -30,6 +30,7 @@ function trimmed(text) {
 
 function of_crates(line,   n, part) {
     if (line == "#[repr(C)]") { repr = 1; return }
+    if (line ~ /^#\[/) return
     if (match(line, /^pub struct [A-Za-z]+\(pub [a-z0-9]+\);/)) {
         n = substr(line, 12)
         sub(/\(.*/, "", n)

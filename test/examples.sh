@@ -6,7 +6,7 @@ example() { # FILE
     "$history" bytes <"$1.txt" >"$work/bytes" || return 1
     "$history" text <"$work/bytes" >"$work/text" || return 1
     "$history" bytes <"$work/text" | cmp - "$work/bytes" || return 1
-    target/bin/replay <"$work/bytes" >"$work/lines" || return 1
+    crates/replay/out/replay <"$work/bytes" >"$work/lines" || return 1
     diff "$work/lines" "$1.out" | head -n 10
     cmp "$work/lines" "$1.out"
 }

@@ -141,7 +141,7 @@ ROWS
 no_crate_can_go() {
     rm -rf "$promised"
     mkdir -p "$promised"
-    cp -R crates crates.txt docs examples c bench test .ci "$promised/"
+    cp -R crates.txt docs examples c bench test .ci bin "$promised/" && copy_crates "$promised" || return 1
     status_of .ci/promises "$promised"
     [ "$status" -eq 0 ] || shown "not accepted" || return 1
     rm -r "$promised/crates/rig_bounds"

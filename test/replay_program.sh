@@ -3,7 +3,7 @@
 
 # More lines than one buffer holds.
 many_lines() {
-    echo "repeat 65536 print" | bin/history bytes | target/bin/replay >"$work/lines"
+    echo "repeat 65536 print" | bin/history bytes | crates/replay/out/replay >"$work/lines"
     yes '1970-01-01T00:00:00Z 000000 4' | head -n 65536 | cmp - "$work/lines"
 }
 
@@ -16,7 +16,7 @@ many_quarters() {
             for (q = 95; q >= 0; q--) {
                 printf "set %d 0\nrequest offset %d\n", 900 * q + 899, (q % 2 ? -1000 : 1000) * (q + 1)
             }
-        }' | bin/history bytes | target/bin/replay >"$work/lines"
+        }' | bin/history bytes | crates/replay/out/replay >"$work/lines"
         awk -v n="$prints" 'BEGIN {
             for (i = 0; i < n; i++) print "1970-01-01T00:00:00Z 000000 4"
             for (q = 0; q < 96; q++) printf "%02d 1 %d\n", q, 1000 * (q + 1)
@@ -32,7 +32,7 @@ summaries() {
         '\004\002\001\000\002=log 10 at 4,' '\004\004=log 12 at 1,' '\004\002\001\000\004=log 12 at 4,' \
         '\000\001\004=log 12 at 2,' '\204\000=log 11 at 0,'; do
         # shellcheck disable=SC2059
-        printf "${row%=*}" | target/bin/replay >"$work/lines" || return 1
+        printf "${row%=*}" | crates/replay/out/replay >"$work/lines" || return 1
         [ "$(tr '\n' , <"$work/lines")" = "${row#*=}" ] || { echo "not so: $row"; cat "$work/lines"; return 1; }
     done
 }
@@ -40,9 +40,9 @@ summaries() {
 # The longest history has its summary, and one more byte ends it.
 longest_summary() {
     printf 'summary\nrequest offset 5\nrepeat 32766 tick 0\n' | bin/history bytes >"$work/bytes" || return 1
-    [ "$(wc -c <"$work/bytes")" -eq 65536 ] && [ "$(target/bin/replay <"$work/bytes")" = '00 1 5' ] || return 1
+    [ "$(wc -c <"$work/bytes")" -eq 65536 ] && [ "$(crates/replay/out/replay <"$work/bytes")" = '00 1 5' ] || return 1
     printf '\003' >>"$work/bytes"
-    [ "$(target/bin/replay <"$work/bytes")" = 'log 13 at 65536' ]
+    [ "$(crates/replay/out/replay <"$work/bytes")" = 'log 13 at 65536' ]
 }
 
 in_parts() {
@@ -65,7 +65,7 @@ failed_read() {
 failed_late() {
     status_of perl test/failing_input.pl "$(printf '\003\003')" bin/replay
     refused_with 3 'replay: standard input' || return 1
-    status_of perl test/failing_input.pl "$(printf '\003\003')" target/bin/replay
+    status_of perl test/failing_input.pl "$(printf '\003\003')" crates/replay/out/replay
     refused_with 0 'replay: standard input'
 }
 

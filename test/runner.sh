@@ -6,9 +6,9 @@ own=$work/runner
 # A repository with three files of tests: of two, one and one.
 new_runner() {
     rm -rf "$own"
-    mkdir -p "$own/.ci" "$own/test" "$own/target/bin" "$own/tmp"
+    mkdir -p "$own/.ci" "$own/test" "$own/crates/replay/out" "$own/tmp"
     cp test/run "$own/test/run"
-    cp target/bin/replay "$own/target/bin/replay"
+    cp crates/replay/out/replay "$own/crates/replay/out/replay"
     printf '%s\n' 'alpha 2' 'beta 1' 'gamma 1' >"$own/.ci/tests"
     printf '%s\n' 'tell "alpha, good" true' 'tell "alpha, also good" true' >"$own/test/alpha.sh"
     echo 'tell "beta, good" true' >"$own/test/beta.sh"
@@ -115,9 +115,14 @@ EDITS
 # A copy whose tests fail without an edit is told.
 broken_copy() {
     rm -rf "$own"
-    mkdir -p "$own/target"
-    cp -R bin .ci test examples docs crates crates.txt c bench README.md CONTRIBUTING.md "$own"
-    cp -R target/bin "$own/target"
+    mkdir -p "$own"
+    # shellcheck disable=SC2046 # the names of files have no spaces
+    cp -R bin .ci test examples docs crates.txt c bench README.md CONTRIBUTING.md $(ls -d LICENSE 2>/dev/null) "$own"
+    copy_crates "$own"
+    for name in replay cross_check; do
+        mkdir -p "$own/crates/$name/out"
+        [ ! -f "crates/$name/out/$name" ] || cp "crates/$name/out/$name" "$own/crates/$name/out"
+    done
     echo 'tell "it is broken" false' >>"$own/test/replay_script.sh"
     printf '%s\n' '= all is wrong' 'in bin/replay, noticed by replay_script' '- set -u' '+ exit 1' >"$work/edits_planted"
     EDITS=$work/edits_planted status_of_work 60 "$own/test/run" broken

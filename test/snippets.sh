@@ -7,7 +7,7 @@
 snippet_in_c() { # FORM
     filled "$1" >"$work/snippet.c"
     gcc -std=c11 -Wall -Wextra -Wno-unused-variable -Wno-unused-but-set-variable -Werror -Ic -o "$work/snippet" \
-        "$work/snippet.c" target/staticlib/libheukelvos_rig.a target/staticlib/libheukelvos.a && "$work/snippet"
+        "$work/snippet.c" crates/heukelvos_rig/out/libheukelvos_rig.a crates/heukelvos/out/libheukelvos.a && "$work/snippet"
 }
 
 # A script, in which $block is the file with the block, and $work a folder.

@@ -1,22 +1,15 @@
 # The snippets in Rattle are put into one crate, `mine`, over the crates that are proved, and are proved
-# there: some 20 s.
+# there: some 20 s where the kit keeps what it proved of these.
 # shellcheck shell=sh
 . test/snippets.lib
 
-# The folder whose crates are proved: this one; or, where broken versions are tried, the one that they are
-# copies of.
-proved_in=$top
-[ -d target/rlib/record.rlib ] || proved_in=${SOUND:-$top}
-
-# A repository in which `mine` is the only crate that is not proved yet.
+# A repository in which `mine` is the only crate that is not proved yet. `rt check` builds those below it first, over what
+# the kit keeps of them.
 snippets_crate() {
     mine=$work/rattle/crates/mine
-    mkdir -p "$mine/src" "$work/rattle/target/log" || return 1
-    cp crates.txt "$work/rattle"
+    rm -rf "$work/rattle"
+    mkdir -p "$mine/src" && cp crates.txt "$work/rattle" && copy_crates "$work/rattle" || return 1
     echo 'mine: state clock request event label record summary' >>"$work/rattle/crates.txt"
-    for crate in crates/*; do ln -s "$top/$crate" "$work/rattle/$crate"; done
-    cp -R "$proved_in/target/stamp" "$work/rattle/target/stamp"
-    ln -s "$proved_in/target/rlib" "$work/rattle/target/rlib"
     : >"$work/modules"
     for form in $(forms_of rattle); do
         read -r _ module <"$form.kind"
@@ -25,23 +18,20 @@ snippets_crate() {
     done
     cat "$work/modules" >>"$mine/src/main.rt"
     for form in $(forms_of proof); do
-        read -r _ function <"$form.kind"
+        read -r _ function file <"$form.kind"
         mkdir -p "$mine/proofs/$function"
-        filled "$form" >"$mine/proofs/$function/Proof.antt"
+        filled "$form" >"$mine/proofs/$function/$file.antt"
     done
 }
 
 snippets_proved() {
     find_snippets && snippets_crate || return 1
-    (cd "$work/rattle" && rt dev mine) >"$work/checked" 2>&1 && grep -q '^logic=proved' "$work/checked" ||
+    (cd "$mine" && rt check) >"$work/checked" 2>&1 && grep -q '^logic=proved' "$work/checked" ||
         { grep -E 'error|not proved|no proof' "$work/checked" | cut -c 1-300; return 1; }
 }
 
 if ! command -v rt >/dev/null; then
     pass_over "the snippets in Rattle" "rt is not on this machine"
-elif [ ! -d "$proved_in/target/rlib/record.rlib" ] || [ ! -d "$proved_in/target/rlib/label.rlib" ] ||
-    [ ! -d "$proved_in/target/rlib/summary.rlib" ]; then
-    pass_over "the snippets in Rattle" "the crates are not proved: run 'rt check'"
 else
     tell "the snippets in Rattle are proved" snippets_proved
 fi

@@ -11,7 +11,7 @@ agrees() {
     # shellcheck disable=SC2046
     set -- $(owed)
     [ $# -eq 2 ] || { echo "README.md does not say once how many cases in how many groups there are"; return 1; }
-    target/bin/cross_check >"$work/lines" 2>"$work/said" || return 1
+    crates/cross_check/out/cross_check >"$work/lines" 2>"$work/said" || return 1
     tail -n 1 "$work/lines" | grep -qx "cross_check: $1 of $1 cases in $2 groups, 0 differ: the two agree" ||
         { tail -n 1 "$work/lines"; return 1; }
 }
