@@ -2,11 +2,11 @@
  * Heukelvos for C: a disciplined clock after README.kern and RFC 1589, whose calls are proved. Link the static library beside it, and that of a
  * rig, for heukelvos_event_at:
  *
- *     rt staticlib heukelvos
- *     gcc -Ic program.c target/staticlib/libheukelvos.a
+ *     (cd crates/heukelvos && rt lib)
+ *     gcc -Ic program.c crates/heukelvos/out/libheukelvos.a
  *
- *     rt staticlib heukelvos_rig
- *     gcc -Ic program.c target/staticlib/libheukelvos_rig.a target/staticlib/libheukelvos.a
+ *     (cd crates/heukelvos_rig && rt lib)
+ *     gcc -Ic program.c crates/heukelvos_rig/out/libheukelvos_rig.a crates/heukelvos/out/libheukelvos.a
  *
  * x86-64 Linux, C99 or later, or C++. The libraries have no data that change, allocate nothing, keep nothing between two calls, and call
  * nothing (but memcpy, should the compiler want it), so that a timer handler may call them, and several clocks may be used at once. They are

@@ -29,6 +29,7 @@ PART
     echo 'echo "lies: at facts"' >"$gate/orders/lies--said"
     echo 'echo "lies: refused"; echo "3 passed, 0 failed"' >"$gate/orders/lies"
     echo 'echo "rt: ok"; echo "7 passed, 0 failed"' >"$gate/orders/rt-ci"
+    echo 'exit 0' >"$gate/orders/rt-all"
     echo 'echo "rt: the library"' >"$gate/orders/rt-lib"
     echo 'echo "a test: as it should be"; echo "5 passed, 0 failed"' >"$gate/orders/test"
 }
@@ -46,7 +47,7 @@ ended_with() { # STATUS LINE
 all_well() {
     new_gate
     run_gate
-    ended_with 0 '22 passed, 0 failed' || return 1
+    ended_with 0 '23 passed, 0 failed' || return 1
     cat >"$work/wanted" <<'SAID'
 contracts: fine
 a contract for every public function: as it should be
@@ -59,17 +60,19 @@ the form of every wrong program: as it should be
 rt: ok
 lies: at facts
 every lie of must-fail/ refused at a fact: as it should be
+every crate checked: as it should be
 rt: the library
 the library for C: as it should be
 rt: the library
 the library for C of a rig: as it should be
 lies: refused
 a test: as it should be
-22 passed, 0 failed
+23 passed, 0 failed
 SAID
     diff "$work/wanted" "$work/out" || return 1
     printf '%s LC_ALL=C\n' contracts reference promises lies--form 'rt-ci ci in gate,' lies--said \
-        'rt-lib lib in heukelvos,' 'rt-lib lib in heukelvos_rig,' lies test | diff - "$gate/calls" || return 1
+        'rt-all all check --jobs N in gate,' 'rt-lib lib in heukelvos,' 'rt-lib lib in heukelvos_rig,' lies test >"$work/wanted"
+    sed 's/--jobs [1-4] /--jobs N /' "$gate/calls" | diff "$work/wanted" - || return 1
     printf '%s\n' 'rt: ok' '7 passed, 0 failed' | diff - "$gate/said"
 }
 
@@ -84,15 +87,16 @@ one_fails() {
     done
     for row in \
         'rt-ci=echo "6 passed, 2 failed"; exit 1=17 passed, 2 failed' \
-        'test=echo "4 passed, 1 failed"; exit 1=21 passed, 1 failed' \
+        'test=echo "4 passed, 1 failed"; exit 1=22 passed, 1 failed' \
         'rt-ci=echo "6 passed, 0 failed"; exit 2=17 passed, 1 failed' \
-        'test=echo "5 passed, 0 failed"; exit 1=22 passed, 1 failed' \
-        'rt-lib=exit 1=20 passed, 2 failed' \
+        'test=echo "5 passed, 0 failed"; exit 1=23 passed, 1 failed' \
+        'rt-lib=exit 1=21 passed, 2 failed' \
+        'rt-all=exit 1=22 passed, 1 failed' \
         'rt-ci=exit 0=11 passed, 1 failed' \
-        'lies--said=exit 1=21 passed, 1 failed' \
-        'lies=echo "2 passed, 1 failed"; exit 1=21 passed, 1 failed' \
-        'lies=exit 0=19 passed, 1 failed' \
-        'test=kill -9 $$=17 passed, 1 failed'; do
+        'lies--said=exit 1=22 passed, 1 failed' \
+        'lies=echo "2 passed, 1 failed"; exit 1=22 passed, 1 failed' \
+        'lies=exit 0=20 passed, 1 failed' \
+        'test=kill -9 $$=18 passed, 1 failed'; do
         part=${row%%=*}
         rest=${row#*=}
         new_gate

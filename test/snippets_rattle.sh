@@ -16,7 +16,8 @@ snippets_crate() {
         filled "$form" uses >"$mine/src/$module.rt"
         [ "$module" = main ] || echo "mod $module;" >>"$work/modules"
     done
-    cat "$work/modules" >>"$mine/src/main.rt"
+    { echo '#![tactic(auto)]' && cat "$mine/src/main.rt" "$work/modules"; } >"$work/main.rt" &&
+        mv "$work/main.rt" "$mine/src/main.rt" || return 1
     for form in $(forms_of proof); do
         read -r _ function file <"$form.kind"
         mkdir -p "$mine/proofs/$function"
