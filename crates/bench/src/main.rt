@@ -13,7 +13,10 @@ mod values;
 ghost use Rattle.std.specs.Prelude.{◌≤◌, length};
 
 use clock::{KIND_256, KIND_1024, MAX_CEILING};
-use libc::{STDIN_FILENO, STDOUT_FILENO};
+use std::io::{Read, Stdin};
+
+// The bytes that are read of the input.
+const ROOM: usize = 4096;
 
 fn wide(b: u8) -> u64 {
     b as u64
@@ -139,17 +142,13 @@ fn run(line: &[u8]) -> Answer {
     Answer::NoOperation
 }
 
-fn print_answer(line: &[u8]) {
+// A line that can't be written is let go, and the next one is run.
+fn print_answer(rt: &impl Print, line: &[u8]) {
     let a = run(line);
-    match a {
-        Answer::Checksum(sum) => {
-            io::print_decimal(STDOUT_FILENO, sum);
-        }
-        Answer::NoOperation => {
-            io::write_all(STDOUT_FILENO, b"no such operation");
-        }
-    }
-    io::write_all(STDOUT_FILENO, b"\n");
+    let _ = match a {
+        Answer::Checksum(sum) => println!(rt; "{sum}"),
+        Answer::NoOperation => println!(rt; "no such operation"),
+    };
 }
 
 // The place of the line's end.
@@ -167,11 +166,11 @@ fn end_of_line(text: &[u8], at: usize) -> usize
     e
 }
 
-fn run_lines(text: &[u8]) {
+fn run_lines(rt: &impl Print, text: &[u8]) {
     let mut p = 0;
     while p < text.len() {
         let e = end_of_line(text, p);
-        print_answer(&text[p..e]);
+        print_answer(rt, &text[p..e]);
         if e == text.len() {
             return;
         }
@@ -179,8 +178,23 @@ fn run_lines(text: &[u8]) {
     }
 }
 
-fn main() {
-    let mut buf = io::buffer();
-    let n = io::read_full(STDIN_FILENO, &mut buf);
-    run_lines(&buf[..n]);
+// Reads until the buffer is full, the input ends or a read fails, and gives how many bytes were read.
+fn read_full(stdin: &mut Stdin, buf: &mut [u8]) -> usize
+    ensures { result ≤ length buf.new }
+{
+    let mut n = 0;
+    while n < buf.len() {
+        match stdin.read(&mut buf[n..]) {
+            Ok(0) => return n,
+            Ok(more) => n += more,
+            Err(_) => return n,
+        }
+    }
+    n
+}
+
+fn main(rt: HostRuntime) {
+    let mut buf = [0u8; ROOM];
+    let n = read_full(&mut rt.stdin(), &mut buf);
+    run_lines(&rt, &buf[..n]);
 }

@@ -8,9 +8,14 @@ mod requests;
 mod sum;
 mod values;
 
+ghost use Rattle.std.specs.Prelude.{◌≤◌, length};
+
 use crate::requests::summed_requests;
 use crate::values::numbers;
-use libc::{STDIN_FILENO, STDOUT_FILENO};
+use std::io::{Read, Stdin};
+
+// The bytes that are read of the input.
+const ROOM: usize = 4096;
 
 fn wide(b: u8) -> u64 {
     b as u64
@@ -46,9 +51,25 @@ fn run(line: &[u8]) -> u64 {
     summed_requests(&values, count_of(line))
 }
 
-fn main() {
-    let mut buf = io::buffer();
-    let n = io::read_full(STDIN_FILENO, &mut buf);
-    io::print_decimal(STDOUT_FILENO, run(&buf[..n]));
-    io::write_all(STDOUT_FILENO, b"\n");
+// Reads until the buffer is full, the input ends or a read fails, and gives how many bytes were read.
+fn read_full(stdin: &mut Stdin, buf: &mut [u8]) -> usize
+    ensures { result ≤ length buf.new }
+{
+    let mut n = 0;
+    while n < buf.len() {
+        match stdin.read(&mut buf[n..]) {
+            Ok(0) => return n,
+            Ok(more) => n += more,
+            Err(_) => return n,
+        }
+    }
+    n
+}
+
+fn main(rt: HostRuntime) {
+    let mut buf = [0u8; ROOM];
+    let n = read_full(&mut rt.stdin(), &mut buf);
+    let sum = run(&buf[..n]);
+    // A sum that can't be written is let go.
+    let _ = println!(rt; "{sum}");
 }
