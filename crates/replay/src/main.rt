@@ -8,13 +8,17 @@ ghost use Rattle.replay.specs.Input.{most};
 use playback::{LONGEST_HISTORY, fill, start};
 use std::fmt::InlineText;
 use std::io;
-use std::io::{Read, Stdin};
+use std::io::{ErrorKind, Read, Stdin};
+use std::process::ExitCode;
 
 // One byte more than the longest history, so that a longer one is seen.
 const ROOM: usize = LONGEST_HISTORY + 1;
 
 // How many bytes of lines are written at a time: so many that a run does not spend its time on calls.
 const WRITTEN: usize = 65536;
+
+// 128 and the number of the signal SIGPIPE.
+const BROKEN_PIPE: u8 = 141;
 
 // What was read: so many bytes, up to the end of the input or of the room; or why a read failed.
 #[derive(Clone, Copy)]
@@ -53,25 +57,40 @@ fn tell_failure(rt: &impl Eprint, what: &str, error: io::Error) {
 }
 
 // Fills the buffer with lines and writes it out, until the run has ended.
-fn replay(rt: &(impl Print + Eprint), bytes: &[u8]) {
+fn replay(rt: &impl Print, bytes: &[u8]) -> io::Result<()> {
     let mut out = [0u8; WRITTEN];
     let mut run = start();
     while !run.ended {
         let filled = fill(bytes, run, &mut out);
         let n = filled.length;
-        if let Err(error) = rt.write_all(&out[..n]) {
-            tell_failure(rt, "replay: standard output", error);
-            return;
-        }
+        rt.write_all(&out[..n])?;
         let next = filled.run;
         run = next;
     }
+    Ok(())
 }
 
-fn main(rt: HostRuntime) {
+// A pipe that nobody reads is no failure to be told: it ends the program with the status that a shell has for
+// the signal of that, which std holds back.
+fn end_unwritten(rt: &impl Eprint, error: io::Error) -> ExitCode {
+    if error.kind() == ErrorKind::BrokenPipe {
+        return ExitCode::from(BROKEN_PIPE);
+    }
+    tell_failure(rt, "replay: standard output", error);
+    ExitCode::SUCCESS
+}
+
+// What has failed is told by standard error, and not by the status.
+fn main(rt: HostRuntime) -> ExitCode {
     let mut buf = [0u8; ROOM];
     match read_input(&mut rt.stdin(), &mut buf) {
-        Input::Bytes(n) => replay(&rt, &buf[..n]),
-        Input::Failed(error) => tell_failure(&rt, "replay: standard input", error),
+        Input::Bytes(n) => match replay(&rt, &buf[..n]) {
+            Ok(()) => ExitCode::SUCCESS,
+            Err(error) => end_unwritten(&rt, error),
+        },
+        Input::Failed(error) => {
+            tell_failure(&rt, "replay: standard input", error);
+            ExitCode::SUCCESS
+        }
     }
 }
