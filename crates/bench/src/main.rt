@@ -13,10 +13,15 @@ mod values;
 ghost use Rattle.std.specs.Prelude.{◌≤◌, length};
 
 use clock::{KIND_256, KIND_1024, MAX_CEILING};
-use std::io::{Read, Stdin};
+use std::io;
+use std::io::{ErrorKind, Read, Stdin};
+use std::process::ExitCode;
 
 // The bytes that are read of the input.
 const ROOM: usize = 4096;
+
+// 128 and the number of the signal SIGPIPE.
+const BROKEN_PIPE: u8 = 141;
 
 fn wide(b: u8) -> u64 {
     b as u64
@@ -142,13 +147,12 @@ fn run(line: &[u8]) -> Answer {
     Answer::NoOperation
 }
 
-// A line that can't be written is let go, and the next one is run.
-fn print_answer(rt: &impl Print, line: &[u8]) {
+fn print_answer(rt: &impl Print, line: &[u8]) -> io::Result<()> {
     let a = run(line);
-    let _ = match a {
+    match a {
         Answer::Checksum(sum) => println!(rt; "{sum}"),
         Answer::NoOperation => println!(rt; "no such operation"),
-    };
+    }
 }
 
 // The place of the line's end.
@@ -166,16 +170,17 @@ fn end_of_line(text: &[u8], at: usize) -> usize
     e
 }
 
-fn run_lines(rt: &impl Print, text: &[u8]) {
+fn run_lines(rt: &impl Print, text: &[u8]) -> io::Result<()> {
     let mut p = 0;
     while p < text.len() {
         let e = end_of_line(text, p);
-        print_answer(rt, &text[p..e]);
+        print_answer(rt, &text[p..e])?;
         if e == text.len() {
-            return;
+            return Ok(());
         }
         p = e + 1;
     }
+    Ok(())
 }
 
 // Reads until the buffer is full, the input ends or a read fails, and gives how many bytes were read.
@@ -193,8 +198,22 @@ fn read_full(stdin: &mut Stdin, buf: &mut [u8]) -> usize
     n
 }
 
-fn main(rt: HostRuntime) {
+// A pipe that nobody reads ends the program with the status that a shell has for the signal of that, which
+// std holds back. Any other write that fails ends it without a word.
+fn status_of(written: io::Result<()>) -> ExitCode {
+    match written {
+        Ok(()) => ExitCode::SUCCESS,
+        Err(error) => {
+            if error.kind() == ErrorKind::BrokenPipe {
+                return ExitCode::from(BROKEN_PIPE);
+            }
+            ExitCode::SUCCESS
+        }
+    }
+}
+
+fn main(rt: HostRuntime) -> ExitCode {
     let mut buf = [0u8; ROOM];
     let n = read_full(&mut rt.stdin(), &mut buf);
-    run_lines(&rt, &buf[..n]);
+    status_of(run_lines(&rt, &buf[..n]))
 }

@@ -12,10 +12,15 @@ ghost use Rattle.std.specs.Prelude.{◌≤◌, length};
 
 use crate::requests::summed_requests;
 use crate::values::numbers;
-use std::io::{Read, Stdin};
+use std::io;
+use std::io::{ErrorKind, Read, Stdin};
+use std::process::ExitCode;
 
 // The bytes that are read of the input.
 const ROOM: usize = 4096;
+
+// 128 and the number of the signal SIGPIPE.
+const BROKEN_PIPE: u8 = 141;
 
 fn wide(b: u8) -> u64 {
     b as u64
@@ -66,10 +71,23 @@ fn read_full(stdin: &mut Stdin, buf: &mut [u8]) -> usize
     n
 }
 
-fn main(rt: HostRuntime) {
+// A pipe that nobody reads ends the program with the status that a shell has for the signal of that, which
+// std holds back. Any other write that fails ends it without a word.
+fn status_of(written: io::Result<()>) -> ExitCode {
+    match written {
+        Ok(()) => ExitCode::SUCCESS,
+        Err(error) => {
+            if error.kind() == ErrorKind::BrokenPipe {
+                return ExitCode::from(BROKEN_PIPE);
+            }
+            ExitCode::SUCCESS
+        }
+    }
+}
+
+fn main(rt: HostRuntime) -> ExitCode {
     let mut buf = [0u8; ROOM];
     let n = read_full(&mut rt.stdin(), &mut buf);
     let sum = run(&buf[..n]);
-    // A sum that can't be written is let go.
-    let _ = println!(rt; "{sum}");
+    status_of(println!(rt; "{sum}"))
 }
