@@ -13,7 +13,15 @@ mod values;
 ghost use Rattle.std.specs.Prelude.{◌≤◌, length};
 
 use clock::{KIND_256, KIND_1024, MAX_CEILING};
-use libc::{STDIN_FILENO, STDOUT_FILENO};
+use std::io;
+use std::io::{ErrorKind, Read, Stdin};
+use std::process::ExitCode;
+
+// The bytes that are read of the input.
+const ROOM: usize = 4096;
+
+// 128 and the number of the signal SIGPIPE.
+const BROKEN_PIPE: u8 = 141;
 
 fn wide(b: u8) -> u64 {
     b as u64
@@ -139,17 +147,12 @@ fn run(line: &[u8]) -> Answer {
     Answer::NoOperation
 }
 
-fn print_answer(line: &[u8]) {
+fn print_answer(rt: &impl Print, line: &[u8]) -> io::Result<()> {
     let a = run(line);
     match a {
-        Answer::Checksum(sum) => {
-            io::print_decimal(STDOUT_FILENO, sum);
-        }
-        Answer::NoOperation => {
-            io::write_all(STDOUT_FILENO, b"no such operation");
-        }
+        Answer::Checksum(sum) => println!(rt; "{sum}"),
+        Answer::NoOperation => println!(rt; "no such operation"),
     }
-    io::write_all(STDOUT_FILENO, b"\n");
 }
 
 // The place of the line's end.
@@ -167,20 +170,50 @@ fn end_of_line(text: &[u8], at: usize) -> usize
     e
 }
 
-fn run_lines(text: &[u8]) {
+fn run_lines(rt: &impl Print, text: &[u8]) -> io::Result<()> {
     let mut p = 0;
     while p < text.len() {
         let e = end_of_line(text, p);
-        print_answer(&text[p..e]);
+        print_answer(rt, &text[p..e])?;
         if e == text.len() {
-            return;
+            return Ok(());
         }
         p = e + 1;
     }
+    Ok(())
 }
 
-fn main() {
-    let mut buf = io::buffer();
-    let n = io::read_full(STDIN_FILENO, &mut buf);
-    run_lines(&buf[..n]);
+// Reads until the buffer is full, the input ends or a read fails, and gives how many bytes were read.
+fn read_full(stdin: &mut Stdin, buf: &mut [u8]) -> usize
+    ensures { result ≤ length buf.new }
+{
+    let mut n = 0;
+    while n < buf.len() {
+        match stdin.read(&mut buf[n..]) {
+            Ok(0) => return n,
+            Ok(more) => n += more,
+            Err(_) => return n,
+        }
+    }
+    n
+}
+
+// A pipe that nobody reads ends the program with the status that a shell has for the signal of that, which
+// std holds back. Any other write that fails ends it without a word.
+fn status_of(written: io::Result<()>) -> ExitCode {
+    match written {
+        Ok(()) => ExitCode::SUCCESS,
+        Err(error) => {
+            if error.kind() == ErrorKind::BrokenPipe {
+                return ExitCode::from(BROKEN_PIPE);
+            }
+            ExitCode::SUCCESS
+        }
+    }
+}
+
+fn main(rt: HostRuntime) -> ExitCode {
+    let mut buf = [0u8; ROOM];
+    let n = read_full(&mut rt.stdin(), &mut buf);
+    status_of(run_lines(&rt, &buf[..n]))
 }

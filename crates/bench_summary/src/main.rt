@@ -8,9 +8,19 @@ mod requests;
 mod sum;
 mod values;
 
+ghost use Rattle.std.specs.Prelude.{◌≤◌, length};
+
 use crate::requests::summed_requests;
 use crate::values::numbers;
-use libc::{STDIN_FILENO, STDOUT_FILENO};
+use std::io;
+use std::io::{ErrorKind, Read, Stdin};
+use std::process::ExitCode;
+
+// The bytes that are read of the input.
+const ROOM: usize = 4096;
+
+// 128 and the number of the signal SIGPIPE.
+const BROKEN_PIPE: u8 = 141;
 
 fn wide(b: u8) -> u64 {
     b as u64
@@ -46,9 +56,38 @@ fn run(line: &[u8]) -> u64 {
     summed_requests(&values, count_of(line))
 }
 
-fn main() {
-    let mut buf = io::buffer();
-    let n = io::read_full(STDIN_FILENO, &mut buf);
-    io::print_decimal(STDOUT_FILENO, run(&buf[..n]));
-    io::write_all(STDOUT_FILENO, b"\n");
+// Reads until the buffer is full, the input ends or a read fails, and gives how many bytes were read.
+fn read_full(stdin: &mut Stdin, buf: &mut [u8]) -> usize
+    ensures { result ≤ length buf.new }
+{
+    let mut n = 0;
+    while n < buf.len() {
+        match stdin.read(&mut buf[n..]) {
+            Ok(0) => return n,
+            Ok(more) => n += more,
+            Err(_) => return n,
+        }
+    }
+    n
+}
+
+// A pipe that nobody reads ends the program with the status that a shell has for the signal of that, which
+// std holds back. Any other write that fails ends it without a word.
+fn status_of(written: io::Result<()>) -> ExitCode {
+    match written {
+        Ok(()) => ExitCode::SUCCESS,
+        Err(error) => {
+            if error.kind() == ErrorKind::BrokenPipe {
+                return ExitCode::from(BROKEN_PIPE);
+            }
+            ExitCode::SUCCESS
+        }
+    }
+}
+
+fn main(rt: HostRuntime) -> ExitCode {
+    let mut buf = [0u8; ROOM];
+    let n = read_full(&mut rt.stdin(), &mut buf);
+    let sum = run(&buf[..n]);
+    status_of(println!(rt; "{sum}"))
 }

@@ -28,7 +28,6 @@ mod summaries;
 
 use crate::calls::Verdict;
 use crate::signed::{least, minus, pick, plus};
-use libc::STDOUT_FILENO;
 
 // Differences told one by one in each group; the others are only counted.
 const TOLD: u64 = 5;
@@ -129,40 +128,45 @@ fn run_case(group: u64, case: u64) -> Verdict {
     }
 }
 
+// What can't be written is let go, and the cases are still run.
+fn write(rt: &impl Print, text: &[u8]) {
+    let _ = rt.write_all(text);
+}
+
 // A text and a number behind it.
-fn tell(text: &[u8], n: u64) {
-    io::write_all(STDOUT_FILENO, text);
-    io::print_decimal(STDOUT_FILENO, n);
+fn tell(rt: &impl Print, text: &[u8], n: u64) {
+    write(rt, text);
+    let _ = rt.print(n);
 }
 
-fn end_line() {
-    io::write_all(STDOUT_FILENO, b"\n");
+fn end_line(rt: &impl Print) {
+    write(rt, b"\n");
 }
 
-fn tell_name(group: u64) {
+fn tell_name(rt: &impl Print, group: u64) {
     let names = NAMES;
     let at = (group % GROUPS as u64 * 16) as usize;
-    io::write_all(STDOUT_FILENO, &names[at..at + 16]);
+    write(rt, &names[at..at + 16]);
 }
 
-fn tell_case(group: u64, case: u64) {
-    tell_name(group);
-    tell(b" differs: ", case);
-    end_line();
+fn tell_case(rt: &impl Print, group: u64, case: u64) {
+    tell_name(rt, group);
+    tell(rt, b" differs: ", case);
+    end_line(rt);
 }
 
-fn tell_answer(number: u64, times: u64) {
+fn tell_answer(rt: &impl Print, number: u64, times: u64) {
     if times != 0 {
-        tell(b", ", number);
-        tell(b": ", times);
+        tell(rt, b", ", number);
+        tell(rt, b": ", times);
     }
 }
 
 // How often each answer was given.
-fn tell_answers(met: &[u64; ANSWERS]) {
+fn tell_answers(rt: &impl Print, met: &[u64; ANSWERS]) {
     let mut k: usize = 0;
     while k < ANSWERS {
-        tell_answer(k as u64, met[k]);
+        tell_answer(rt, k as u64, met[k]);
         k += 1;
     }
 }
@@ -202,12 +206,19 @@ fn joined(a: Tally, b: Tally) -> Tally {
 }
 
 // The counts after one more case. Of a group's cases that differ the first are told one by one.
-fn noted(group: u64, case: u64, v: Verdict, met: &mut [u64; ANSWERS], t: Tally) -> Tally {
+fn noted(
+    rt: &impl Print,
+    group: u64,
+    case: u64,
+    v: Verdict,
+    met: &mut [u64; ANSWERS],
+    t: Tally,
+) -> Tally {
     let k = (v.refusal % ANSWERS as u64) as usize;
     met[k] = plus(met[k], 1);
     match pick(v.same | (TOLD <= t.differ), 0, 1) {
         0 => (),
-        _ => tell_case(group, case),
+        _ => tell_case(rt, group, case),
     }
     joined(
         t,
@@ -223,87 +234,93 @@ fn noted(group: u64, case: u64, v: Verdict, met: &mut [u64; ANSWERS], t: Tally) 
 }
 
 // A group's line, and what it came to.
-fn told(group: u64, t: Tally, met: &[u64; ANSWERS]) -> Tally {
-    tell_name(group);
-    tell(b" compared ", t.compared);
-    tell(b" differed ", t.differ);
-    tell_answers(met);
+fn told(rt: &impl Print, group: u64, t: Tally, met: &[u64; ANSWERS]) -> Tally {
+    tell_name(rt, group);
+    tell(rt, b" compared ", t.compared);
+    tell(rt, b" differed ", t.differ);
+    tell_answers(rt, met);
     if t.offsets != 0 {
-        tell(b"; offsets accepted after an earlier one: ", t.offsets);
+        tell(rt, b"; offsets accepted after an earlier one: ", t.offsets);
     }
     if plus(t.up, t.down) != 0 {
-        tell(b"; decided by whole units, up: ", t.up);
-        tell(b", down: ", t.down);
+        tell(rt, b"; decided by whole units, up: ", t.up);
+        tell(rt, b", down: ", t.down);
     }
-    end_line();
+    end_line(rt);
     let mut all = t;
     all.agreeing = pick(t.differ == 0, 1, 0);
     all
 }
 
 // All cases of a group.
-fn run(group: u64) -> Tally {
+fn run(rt: &impl Print, group: u64) -> Tally {
     let n = cases_of(group);
     let mut met = [0u64; ANSWERS];
     let mut t = nothing();
     let mut i: u64 = 0;
     while i < n {
-        t = noted(group, i, run_case(group, i), &mut met, t);
+        t = noted(rt, group, i, run_case(group, i), &mut met, t);
         i += 1;
     }
-    told(group, t, &met)
+    told(rt, group, t, &met)
 }
 
 // Too few of something: how many there were, and of how many.
-fn tell_few(what: &[u8], n: u64, of: u64) {
-    io::write_all(STDOUT_FILENO, b"cross_check: TOO FEW ");
-    tell(what, n);
-    tell(b" of ", of);
-    end_line();
+fn tell_few(rt: &impl Print, what: &[u8], n: u64, of: u64) {
+    write(rt, b"cross_check: TOO FEW ");
+    tell(rt, what, n);
+    tell(rt, b" of ", of);
+    end_line(rt);
 }
 
-fn tell_agreement(t: Tally) {
-    tell(b"cross_check: ", t.compared);
-    tell(b" of ", OWED);
-    tell(b" cases in ", t.agreeing);
-    io::write_all(STDOUT_FILENO, b" groups, 0 differ: the two agree\n");
+fn tell_agreement(rt: &impl Print, t: Tally) {
+    tell(rt, b"cross_check: ", t.compared);
+    tell(rt, b" of ", OWED);
+    tell(rt, b" cases in ", t.agreeing);
+    write(rt, b" groups, 0 differ: the two agree\n");
 }
 
-fn tell_difference(t: Tally) {
-    tell(b"cross_check: DIFFER in ", t.differ);
-    tell(b" of ", t.compared);
-    tell(b" cases, in groups: ", minus(GROUPS as u64, t.agreeing));
-    end_line();
+fn tell_difference(rt: &impl Print, t: Tally) {
+    tell(rt, b"cross_check: DIFFER in ", t.differ);
+    tell(rt, b" of ", t.compared);
+    tell(rt, b" cases, in groups: ", minus(GROUPS as u64, t.agreeing));
+    end_line(rt);
 }
 
 // The last line.
-fn tell_verdict(t: Tally) {
+fn tell_verdict(rt: &impl Print, t: Tally) {
     let units = least(t.up, t.down);
     let enough = pick(t.offsets < FEWEST, 2, pick(units < FEWEST, 3, 4));
     let all = pick(t.compared == OWED, enough, 1);
     match pick(t.differ == 0, all, 0) {
-        0 => tell_difference(t),
-        1 => tell_few(b"cases: ", t.compared, OWED),
+        0 => tell_difference(rt, t),
+        1 => tell_few(rt, b"cases: ", t.compared, OWED),
         2 => tell_few(
+            rt,
             b"offsets accepted after an earlier one: ",
             t.offsets,
             FEWEST,
         ),
-        3 => tell_few(b"cases decided by whole units, up or down: ", units, FEWEST),
-        _ => tell_agreement(t),
+        3 => tell_few(
+            rt,
+            b"cases decided by whole units, up or down: ",
+            units,
+            FEWEST,
+        ),
+        _ => tell_agreement(rt, t),
     }
 }
 
-fn main() {
-    io::write_all(
-        STDOUT_FILENO,
+fn main(rt: HostRuntime) {
+    write(
+        &rt,
         b"cases compared, cases that differ, and how often each answer was given (0: accepted, else the refusal):\n",
     );
     let mut t = nothing();
     let mut k: u64 = 0;
     while k < GROUPS as u64 {
-        t = joined(t, run(k));
+        t = joined(t, run(&rt, k));
         k += 1;
     }
-    tell_verdict(t);
+    tell_verdict(&rt, t);
 }

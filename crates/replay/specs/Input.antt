@@ -6,4 +6,4 @@ use Rattle.replay.specs.declared.Input.TheVariants.{Bytes, Failed}
 -- how many bytes were read; none of them is used where a read failed
 abbrev pub most : Input → ℕ
 most (Bytes n) = n
-most Failed = 0
+most (Failed error) = 0

@@ -4,6 +4,7 @@ ghost use Rattle.std.specs.Prelude.{◌≤◌};
 
 use crate::show::{show_clock, show_count, show_refusal};
 use clock::{AskedMicros, Clock, LAST_SECOND, MAX_CEILING};
+use std::io;
 
 // Eight hours at 256 Hz.
 const NIGHT: u64 = 8 * 60 * 60 * 256;
@@ -17,23 +18,23 @@ struct Behind {
 
 // With `stop` the call ends after the tick that rolls the second over, whatever its ceiling: the place for a
 // reading each second.
-pub(crate) fn to_the_next_second(c: Clock) {
+pub(crate) fn to_the_next_second(rt: &impl Print, c: Clock) -> io::Result<()> {
     let made = clock::catch_up(c, MAX_CEILING, true);
-    show_count(b"to the next second, ticks made", made.count);
-    show_clock(b"  which gives", made.clock);
+    show_count(rt, b"to the next second, ticks made", made.count)?;
+    show_clock(rt, b"  which gives", made.clock)
 }
 
 // A night, made up for in 112 calls of 65,536 ticks and one of 32,768. The frequency and the rest of the
 // offset are paid in it as if the recorder had been awake: some 28,800 x 50 us and 1,000 us.
-pub(crate) fn night_asleep(c: Clock) {
+pub(crate) fn night_asleep(rt: &impl Print, c: Clock) -> io::Result<()> {
     let evening = Behind {
         due: NIGHT,
         clock: c,
     };
-    show_count(b"a night asleep, ticks due", evening.due);
+    show_count(rt, b"a night asleep, ticks due", evening.due)?;
     let morning = up_to_64_calls(up_to_64_calls(evening));
-    show_count(b"  and left in the morning", morning.due);
-    show_clock(b"  which gives", morning.clock);
+    show_count(rt, b"  and left in the morning", morning.due)?;
+    show_clock(rt, b"  which gives", morning.clock)
 }
 
 // What one call may be asked for.
@@ -70,18 +71,18 @@ fn up_to_64_calls(b: Behind) -> Behind {
 
 // From five seconds before the last one on. The tick that would end the last second is refused: its number
 // stands beside the count, the ticks before it stand, and the call itself is accepted.
-pub(crate) fn into_the_last_second(c: Clock) {
+pub(crate) fn into_the_last_second(rt: &impl Print, c: Clock) -> io::Result<()> {
     let set = clock::set(c, LAST_SECOND as u64 - 5, AskedMicros(0));
     let made = clock::catch_up(set.clock, MAX_CEILING, false);
-    show_refusal(b"65,536 ticks, at the end of time", made.refusal);
-    show_count(b"  ticks made", made.count);
-    show_refusal(b"  the next tick", made.tick_refusal);
-    show_clock(b"  which gives", made.clock);
+    show_refusal(rt, b"65,536 ticks, at the end of time", made.refusal)?;
+    show_count(rt, b"  ticks made", made.count)?;
+    show_refusal(rt, b"  the next tick", made.tick_refusal)?;
+    show_clock(rt, b"  which gives", made.clock)
 }
 
 // A call that is refused makes no tick.
-pub(crate) fn too_many_at_once(c: Clock) {
+pub(crate) fn too_many_at_once(rt: &impl Print, c: Clock) -> io::Result<()> {
     let made = clock::catch_up(c, MAX_CEILING + 1, false);
-    show_refusal(b"65,537 ticks in one call", made.refusal);
-    show_count(b"  ticks made", made.count);
+    show_refusal(rt, b"65,537 ticks in one call", made.refusal)?;
+    show_count(rt, b"  ticks made", made.count)
 }

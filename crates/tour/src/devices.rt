@@ -2,32 +2,33 @@
 // of the other.
 use crate::show::{show_clock, show_count, show_refusal};
 use clock::{AskedMicros, Clock, KIND_1024};
+use std::io;
 
 // A number that is no kind.
 const NO_KIND: u8 = 2;
 
-fn show_kind(what: &[u8], c: Clock) {
-    show_count(what, c.kind as u64);
+fn show_kind(rt: &impl Print, what: &[u8], c: Clock) -> io::Result<()> {
+    show_count(rt, what, c.kind as u64)
 }
 
 // A second of the 1,024 Hz recorder: as many ticks as its constants tell. Both runs begin with the same
 // clock, since it is a value.
-pub(crate) fn second_of_1024_ticks() {
+pub(crate) fn second_of_1024_ticks(rt: &impl Print) -> io::Result<()> {
     let new = clock::fresh(KIND_1024);
-    show_refusal(b"a fresh clock of kind 1", new.refusal);
+    show_refusal(rt, b"a fresh clock of kind 1", new.refusal)?;
     let rate = clock::device_constants(KIND_1024).device.rate as u64;
-    show_count(b"  ticks a second", rate);
+    show_count(rt, b"  ticks a second", rate)?;
     let one = clock::run_ticks(new.clock, 1);
-    show_clock(b"  one tick later", one.clock);
+    show_clock(rt, b"  one tick later", one.clock)?;
     let second = clock::run_ticks(new.clock, rate);
-    show_clock(b"  a second later", second.clock);
+    show_clock(rt, b"  a second later", second.clock)?;
     let set = clock::set(second.clock, 0, AskedMicros(0));
-    show_kind(b"  set back, and of kind", set.clock);
+    show_kind(rt, b"  set back, and of kind", set.clock)
 }
 
 // There is no third kind: the answer is refused, and its clock is one of kind 0.
-pub(crate) fn no_third_kind() {
+pub(crate) fn no_third_kind(rt: &impl Print) -> io::Result<()> {
     let none = clock::fresh(NO_KIND);
-    show_refusal(b"a fresh clock of kind 2", none.refusal);
-    show_kind(b"  which gives one of kind", none.clock);
+    show_refusal(rt, b"a fresh clock of kind 2", none.refusal)?;
+    show_kind(rt, b"  which gives one of kind", none.clock)
 }
