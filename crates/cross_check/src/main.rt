@@ -28,6 +28,12 @@ mod summaries;
 
 use crate::calls::Verdict;
 use crate::signed::{least, minus, pick, plus};
+use std::io;
+use std::io::ErrorKind;
+use std::process::ExitCode;
+
+// 128 and the number of the signal SIGPIPE.
+const BROKEN_PIPE: u8 = 141;
 
 // Differences told one by one in each group; the others are only counted.
 const TOLD: u64 = 5;
@@ -128,47 +134,44 @@ fn run_case(group: u64, case: u64) -> Verdict {
     }
 }
 
-// What can't be written is let go, and the cases are still run.
-fn write(rt: &impl Print, text: &[u8]) {
-    let _ = rt.write_all(text);
-}
-
 // A text and a number behind it.
-fn tell(rt: &impl Print, text: &[u8], n: u64) {
-    write(rt, text);
-    let _ = rt.print(n);
+fn tell(rt: &impl Print, text: &[u8], n: u64) -> io::Result<()> {
+    rt.write_all(text)?;
+    rt.print(n)
 }
 
-fn end_line(rt: &impl Print) {
-    write(rt, b"\n");
+fn end_line(rt: &impl Print) -> io::Result<()> {
+    rt.write_all(b"\n")
 }
 
-fn tell_name(rt: &impl Print, group: u64) {
+fn tell_name(rt: &impl Print, group: u64) -> io::Result<()> {
     let names = NAMES;
     let at = (group % GROUPS as u64 * 16) as usize;
-    write(rt, &names[at..at + 16]);
+    rt.write_all(&names[at..at + 16])
 }
 
-fn tell_case(rt: &impl Print, group: u64, case: u64) {
-    tell_name(rt, group);
-    tell(rt, b" differs: ", case);
-    end_line(rt);
+fn tell_case(rt: &impl Print, group: u64, case: u64) -> io::Result<()> {
+    tell_name(rt, group)?;
+    tell(rt, b" differs: ", case)?;
+    end_line(rt)
 }
 
-fn tell_answer(rt: &impl Print, number: u64, times: u64) {
+fn tell_answer(rt: &impl Print, number: u64, times: u64) -> io::Result<()> {
     if times != 0 {
-        tell(rt, b", ", number);
-        tell(rt, b": ", times);
+        tell(rt, b", ", number)?;
+        tell(rt, b": ", times)?;
     }
+    Ok(())
 }
 
 // How often each answer was given.
-fn tell_answers(rt: &impl Print, met: &[u64; ANSWERS]) {
+fn tell_answers(rt: &impl Print, met: &[u64; ANSWERS]) -> io::Result<()> {
     let mut k: usize = 0;
     while k < ANSWERS {
-        tell_answer(rt, k as u64, met[k]);
+        tell_answer(rt, k as u64, met[k])?;
         k += 1;
     }
+    Ok(())
 }
 
 // What a group came to, or all of them: cases compared and those that differ, groups without such a case, the
@@ -213,14 +216,14 @@ fn noted(
     v: Verdict,
     met: &mut [u64; ANSWERS],
     t: Tally,
-) -> Tally {
+) -> io::Result<Tally> {
     let k = (v.refusal % ANSWERS as u64) as usize;
     met[k] = plus(met[k], 1);
     match pick(v.same | (TOLD <= t.differ), 0, 1) {
         0 => (),
-        _ => tell_case(rt, group, case),
+        _ => tell_case(rt, group, case)?,
     }
-    joined(
+    Ok(joined(
         t,
         Tally {
             compared: 1,
@@ -230,65 +233,65 @@ fn noted(
             up: v.up,
             down: v.down,
         },
-    )
+    ))
 }
 
 // A group's line, and what it came to.
-fn told(rt: &impl Print, group: u64, t: Tally, met: &[u64; ANSWERS]) -> Tally {
-    tell_name(rt, group);
-    tell(rt, b" compared ", t.compared);
-    tell(rt, b" differed ", t.differ);
-    tell_answers(rt, met);
+fn told(rt: &impl Print, group: u64, t: Tally, met: &[u64; ANSWERS]) -> io::Result<Tally> {
+    tell_name(rt, group)?;
+    tell(rt, b" compared ", t.compared)?;
+    tell(rt, b" differed ", t.differ)?;
+    tell_answers(rt, met)?;
     if t.offsets != 0 {
-        tell(rt, b"; offsets accepted after an earlier one: ", t.offsets);
+        tell(rt, b"; offsets accepted after an earlier one: ", t.offsets)?;
     }
     if plus(t.up, t.down) != 0 {
-        tell(rt, b"; decided by whole units, up: ", t.up);
-        tell(rt, b", down: ", t.down);
+        tell(rt, b"; decided by whole units, up: ", t.up)?;
+        tell(rt, b", down: ", t.down)?;
     }
-    end_line(rt);
+    end_line(rt)?;
     let mut all = t;
     all.agreeing = pick(t.differ == 0, 1, 0);
-    all
+    Ok(all)
 }
 
 // All cases of a group.
-fn run(rt: &impl Print, group: u64) -> Tally {
+fn run(rt: &impl Print, group: u64) -> io::Result<Tally> {
     let n = cases_of(group);
     let mut met = [0u64; ANSWERS];
     let mut t = nothing();
     let mut i: u64 = 0;
     while i < n {
-        t = noted(rt, group, i, run_case(group, i), &mut met, t);
+        t = noted(rt, group, i, run_case(group, i), &mut met, t)?;
         i += 1;
     }
     told(rt, group, t, &met)
 }
 
 // Too few of something: how many there were, and of how many.
-fn tell_few(rt: &impl Print, what: &[u8], n: u64, of: u64) {
-    write(rt, b"cross_check: TOO FEW ");
-    tell(rt, what, n);
-    tell(rt, b" of ", of);
-    end_line(rt);
+fn tell_few(rt: &impl Print, what: &[u8], n: u64, of: u64) -> io::Result<()> {
+    rt.write_all(b"cross_check: TOO FEW ")?;
+    tell(rt, what, n)?;
+    tell(rt, b" of ", of)?;
+    end_line(rt)
 }
 
-fn tell_agreement(rt: &impl Print, t: Tally) {
-    tell(rt, b"cross_check: ", t.compared);
-    tell(rt, b" of ", OWED);
-    tell(rt, b" cases in ", t.agreeing);
-    write(rt, b" groups, 0 differ: the two agree\n");
+fn tell_agreement(rt: &impl Print, t: Tally) -> io::Result<()> {
+    tell(rt, b"cross_check: ", t.compared)?;
+    tell(rt, b" of ", OWED)?;
+    tell(rt, b" cases in ", t.agreeing)?;
+    rt.write_all(b" groups, 0 differ: the two agree\n")
 }
 
-fn tell_difference(rt: &impl Print, t: Tally) {
-    tell(rt, b"cross_check: DIFFER in ", t.differ);
-    tell(rt, b" of ", t.compared);
-    tell(rt, b" cases, in groups: ", minus(GROUPS as u64, t.agreeing));
-    end_line(rt);
+fn tell_difference(rt: &impl Print, t: Tally) -> io::Result<()> {
+    tell(rt, b"cross_check: DIFFER in ", t.differ)?;
+    tell(rt, b" of ", t.compared)?;
+    tell(rt, b" cases, in groups: ", minus(GROUPS as u64, t.agreeing))?;
+    end_line(rt)
 }
 
 // The last line.
-fn tell_verdict(rt: &impl Print, t: Tally) {
+fn tell_verdict(rt: &impl Print, t: Tally) -> io::Result<()> {
     let units = least(t.up, t.down);
     let enough = pick(t.offsets < FEWEST, 2, pick(units < FEWEST, 3, 4));
     let all = pick(t.compared == OWED, enough, 1);
@@ -311,16 +314,30 @@ fn tell_verdict(rt: &impl Print, t: Tally) {
     }
 }
 
-fn main(rt: HostRuntime) {
-    write(
-        &rt,
+// All groups.
+fn cross_check(rt: &impl Print) -> io::Result<()> {
+    rt.write_all(
         b"cases compared, cases that differ, and how often each answer was given (0: accepted, else the refusal):\n",
-    );
+    )?;
     let mut t = nothing();
     let mut k: u64 = 0;
     while k < GROUPS as u64 {
-        t = joined(t, run(&rt, k));
+        t = joined(t, run(rt, k)?);
         k += 1;
     }
-    tell_verdict(&rt, t);
+    tell_verdict(rt, t)
+}
+
+// A line that can't be written ends it without a word. Where that is because nobody reads the pipe, the status
+// is the one that a shell has for the signal of that, which std holds back.
+fn main(rt: HostRuntime) -> ExitCode {
+    match cross_check(&rt) {
+        Ok(()) => ExitCode::SUCCESS,
+        Err(error) => {
+            if error.kind() == ErrorKind::BrokenPipe {
+                return ExitCode::from(BROKEN_PIPE);
+            }
+            ExitCode::SUCCESS
+        }
+    }
 }
