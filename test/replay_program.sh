@@ -77,6 +77,15 @@ failed_write() {
     refused_with 3 'replay: standard output' || { echo "a closed output"; return 1; }
 }
 
+# Where nobody reads its lines it ends with the status of the signal of that, and says nothing.
+unread_lines() {
+    echo "repeat 65536 print" | bin/history bytes >"$work/bytes"
+    for replay in bin/replay crates/replay/out/replay; do
+        { $replay <"$work/bytes" 2>"$work/said"; echo $? >"$work/status"; } | true
+        [ "$(cat "$work/status")" -eq 141 ] && [ ! -s "$work/said" ] || { echo "$replay: status $(cat "$work/status")"; return 1; }
+    done
+}
+
 tell "65,536 lines" many_lines
 tell "a summary of 96 lines, in one buffer or two" many_quarters
 tell "where a summary is printed" summaries
@@ -84,6 +93,7 @@ tell "the summary of the longest history" longest_summary
 tell "an input in parts" in_parts
 tell "a failed read of the replay" failed_read
 tell "a failed write of the replay" failed_write
+tell "lines of the replay that nobody reads" unread_lines
 if perl test/failing_input.pl x true 2>/dev/null; then
     tell "a read of the replay that fails late" failed_late
 else
