@@ -328,8 +328,8 @@ fn cross_check(rt: &impl Print) -> io::Result<()> {
     tell_verdict(rt, t)
 }
 
-// A line that can't be written ends it without a word. Where that is because nobody reads the pipe, the status
-// is the one that a shell has for the signal of that, which std holds back.
+// A line that can't be written ends it without a word. Where that is because nobody reads the pipe, the
+// status is the one that a shell has for the signal of that, which std holds back.
 fn main(rt: HostRuntime) -> ExitCode {
     match cross_check(&rt) {
         Ok(()) => ExitCode::SUCCESS,
