@@ -5,7 +5,7 @@
 plant() { # ROOT-FILE
     rm -rf "$work/planted"
     mkdir -p "$work/planted/crates/one/src" "$work/planted/crates/one/specs" "$work/planted/crates/unlisted/src" "$work/planted/docs"
-    echo 'one: # the only one' >"$work/planted/crates.txt"
+    echo 'one staticlib: # the only one' >"$work/planted/crates.txt"
     {
         cat
         echo 'ghost use Rattle.one.specs.Said.{pair, same, most, told, Related, Small, Kept};'
