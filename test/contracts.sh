@@ -5,7 +5,7 @@
 plant() { # ROOT-FILE
     rm -rf "$work/planted"
     mkdir -p "$work/planted/crates/one/src" "$work/planted/crates/one/specs" "$work/planted/crates/unlisted/src" "$work/planted/docs"
-    echo 'one: # the only one' >"$work/planted/crates.txt"
+    echo 'one staticlib: # the only one' >"$work/planted/crates.txt"
     {
         cat
         echo 'ghost use Rattle.one.specs.Said.{pair, same, most, told, Related, Small, Kept};'
@@ -239,7 +239,7 @@ ROWS
 # In the layout of `rt fmt` a plain search finds the public functions too.
 as_many_as_found() {
     found=0
-    for name in $(sed -n 's/^\([a-z_0-9]*\):.*/\1/p' crates.txt); do
+    for name in $(sed -n 's/^\([a-z_0-9]*\)[^:]*:.*/\1/p' crates.txt); do
         found=$((found + $(cat crates/"$name"/src/*.rt | grep -c '^ *pub \(extern "C" \)\{0,1\}fn ')))
     done
     status_of .ci/contracts
