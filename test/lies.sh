@@ -193,7 +193,7 @@ ROWS
 # What `rt ci` said of must-fail/.
 lies_said() {
     plant_liar
-    ok='rt: ok; handles allowed: none; must-fail edits: 1 refused, 0 bad; done in this run: 0 of the 4 proofs'
+    ok='rt: ok; handles allowed: none; must-fail edits: 1 refused; done in this run: 0 of the 4 proofs'
     while IFS='|' read -r wanted said rest; do
         printf '%s\n' 'rt: one proved' "rt: must-fail one/third.edit: $said" "${rest:-$ok}" >"$liar/said"
         run_liar --said "$liar/said" && [ "$status" -eq "$wanted" ] || shown "$said, ${rest:-$ok}" || return 1
@@ -203,11 +203,13 @@ lies_said() {
 0|refused, as it must be
 1|refused, as it must be: ./specs/Said.antt:1:1: error: no
 1|refused, as it must be (only by a limit of the prover, which gave no verdict): proofs/Law.antt:1:1
+1|refused, as it must be (only because a proof file names what the edit took away): proofs/Law.antt:1:1
 1|NOT REFUSED: the crate is still proved with this edit
 1|BAD EDIT: an 'old:' text is in specs/Said.antt 0 times, and not once
 1|NOT TRIED: its check was killed
 1|refused, as it must be: note: src/lib.rt:1:1: no|rt: ok; handles allowed: none; must-fail edits: 1 refused, 1 bad; done
-1|refused, as it must be: note: src/lib.rt:1:1: no|rt: ok; handles allowed: none; must-fail edits: 0 refused, 0 bad; done
+1|refused, as it must be: note: src/lib.rt:1:1: no|rt: ok; handles allowed: none; must-fail edits: 0 refused; done
+1|refused, as it must be: note: src/lib.rt:1:1: no|rt: ok; handles allowed: none; must-fail edits: 1 refused, 1 of them only by a limit; done
 1|refused, as it must be: note: src/lib.rt:1:1: no|rt: FAILED: one
 ROWS
     echo "$ok" >"$liar/said"
