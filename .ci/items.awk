@@ -1,4 +1,5 @@
-# The items of Rattle's source files, one a line: KIND VISIBILITY PLACE MODULE NAME REST, with a tab between them.
+# The items of Rattle's source files, one a line: KIND VISIBILITY PLACE MODULE NAME REST, with a tab
+# between them.
 #
 #   KIND         fn, struct, enum, variant, const, type, mod, use or ghost (a name of specifications that is brought)
 #   VISIBILITY   pub; or own, also for pub(crate) and the like. A function that is exported to C is pub
@@ -9,14 +10,16 @@
 #                ghost use with its dots. A function has more fields: its parameters and result, and then each ensures, the text
 #                between its braces, with a `*` before it where the clause has a star
 #
-# It reads files by name, crates/NAME/src/*.rt; comments, strings and what stands in bodies is passed over. A file whose braces do not
-# match is not understood: its line is 'lost FILE', and the exit status is 1.
+# It reads files by name, crates/NAME/src/*.rt; comments, strings and what stands in bodies is passed
+# over. A file whose braces do not match is not understood: its line is 'lost FILE', and the exit status
+# is 1.
 
 function emit(kind, visibility, name, rest) {
     print kind "\t" visibility "\t" place "\t" module "\t" name "\t" rest
 }
 
-# The next word of the line, in `word`: a name, a literal, or one byte; `gap` is a space if one stands before it. 0 at the line's end.
+# The next word of the line, in `word`: a name, a literal, or one byte; `gap` is a space if one stands
+# before it. 0 at the line's end.
 function next_word() {
     if (sub(/^[ \t]+/, "", text)) gap = " "
     if (text == "") return 0
@@ -138,8 +141,8 @@ function type_of_impl(    i, angles, name) {
     return name
 }
 
-# Whether the head ends in a clause's word, which may have a star and a name behind it: `ensures {`, `ensures kept {`, `ensures* {`. It
-# is counted and taken off.
+# Whether the head ends in a clause's word, which may have a star and a name behind it: `ensures {`,
+# `ensures kept {`, `ensures* {`. It is counted and taken off.
 function clause(    i) {
     for (i = heads; i >= heads - 2 && i > 0; i--) {
         if (head[i] !~ /^(ensures|requires|ghost)$/ || (i < heads - 1 && head[i + 1] != "*")) continue
@@ -203,7 +206,8 @@ function closes() {
     fresh_head()
 }
 
-# A word in what is passed over. Of an enum's body, the names that stand first in it or behind a comma are its variants.
+# A word in what is passed over. Of an enum's body, the names that stand first in it or behind a comma are
+# its variants.
 function pass() {
     if (word == "{" || word == "(") skipped++
     if (word == "}" || word == ")") skipped--

@@ -1,7 +1,7 @@
-# .ci/lies on a planted repository, with a stand-in for `rt` that judges a crate by words in its code: `wrong`
-# is refused, `unread` makes a definition that can't be read and `uncoded` no code, `broken` ends without a
-# verdict, `mute` says nothing, and `sticky` is refused from then on. As `rt must-fail` it judges an edit by the
-# same words in its `new:` line.
+# .ci/lies on a planted repository, with a stand-in for `rt` that judges a crate by words in its code:
+# `wrong` is refused, `unread` makes a definition that can't be read and `uncoded` no code, `broken` ends
+# without a verdict, `mute` says nothing, and `sticky` is refused from then on. As `rt must-fail` it
+# judges an edit by the same words in its `new:` line.
 # shellcheck shell=sh
 
 liar=$work/liar

@@ -1,5 +1,5 @@
-# bin/replay with the true kit: its lines are understood, and a lost program is built again. No crate has to be
-# proved anew for that where the kit keeps what it proved.
+# bin/replay with the true kit: its lines are understood, and a lost program is built again. No crate has
+# to be proved anew for that where the kit keeps what it proved.
 # shellcheck shell=sh
 
 # Whether the program was built, by lines that tell crates which are proved, and prints a fresh clock.

@@ -3,8 +3,8 @@
 # shellcheck shell=sh
 . test/snippets.lib
 
-# A repository in which `mine` is the only crate that is not proved yet. `rt check` builds those below it first, over what
-# the kit keeps of them.
+# A repository in which `mine` is the only crate that is not proved yet. `rt check` builds those below it
+# first, over what the kit keeps of them.
 snippets_crate() {
     mine=$work/rattle/crates/mine
     rm -rf "$work/rattle"
