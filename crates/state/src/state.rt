@@ -9,13 +9,13 @@ use crate::limits::{
     MIN_FREQUENCY, MIN_OFFSET, PHASE_LOWER_END, PHASE_UPPER_END, TIME_BAD,
 };
 use crate::outcome::Outcome;
-use crate::refusals::REFUSED_STATE;
+use crate::refusal::Refusal;
 use crate::units::{Frequency, Micros, OffsetUnits, PhaseParts, PhaseUnits};
 
 // A clock's state, in the order of document 01's table; document 02's other fields follow it in the order of
 // its requests. Any value of the type may be handed in, sound or not.
 #[repr(C)]
-#[derive(Clone, Copy)]
+#[derive(Clone, Copy, Debug, PartialEq, Eq)]
 pub struct Clock {
     // seconds since 1970-01-01T00:00:00Z
     pub seconds: u32,
@@ -127,15 +127,9 @@ pub fn fresh(kind: u8) -> Outcome
     ensures { result ≡ fresh_of kind }
 {
     if KIND_1024 < kind {
-        return Outcome {
-            refusal: REFUSED_STATE,
-            clock: fresh_of(KIND_256),
-        };
+        return Outcome::refused(fresh_of(KIND_256), Refusal::State);
     }
-    Outcome {
-        refusal: 0,
-        clock: fresh_of(kind),
-    }
+    Outcome::accepted(fresh_of(kind))
 }
 
 fn fresh_of(kind: u8) -> Clock
