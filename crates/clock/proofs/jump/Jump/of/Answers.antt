@@ -1,11 +1,10 @@
--- `clock::jump::jump_length`: as many ticks as are asked for, or as many as leave all but the last within the
+-- `clock::jump::Jump::of`: as many ticks as are asked for, or as many as leave all but the last within the
 -- second.
 use Prim.Native.Nat.{ℕ, ◌+◌, ◌-◌, ◌*◌, ◌/◌, ◌≤◌, ◌<◌}
 use native.Mathlib.Nat.{mul-le-mul_left, mul-le-mul_right, mul-div-le}
 use native.Mathlib.Omega.{arith}
 use Rattle.state.proofs.Ok.{ok}
-use Rattle.clock.proofs.jump.jump_length.Goals.{After-per_micro}
-use Rattle.clock.proofs.jump.jump_length.Goals as goal
+use Rattle.clock.proofs.jump.Jump.of.Goals as goal
 
 -- r longest ticks m (phase units), in 2^-32, go into a microsecond
 module _ (us r m : ℕ) (h : us ≤ 999999) (fits : r ≤ 4294967296) (least : r * m ≤ 4294967296 * 268435456) where
@@ -27,18 +26,11 @@ module _ (us r m : ℕ) (h : us ≤ 999999) (fits : r ≤ 4294967296) (least : r
       let e : j - 1 ≤ left * r / 4294967296 = omega arith in
       omega (arith, some_left, mul-le-mul_left m e)
 
-known : (a : After-per_micro) → a.args.c.micros.0 ≤ 999999
-known a = (ok a.args.c a.requires.c_value).micros
-
 pub overflow_sub-j : goal.overflow_sub-j
-overflow_sub-j c = (ok c.args.c c.requires.c_value).micros
+overflow_sub-j c = (ok _ c.args.s.in_range).micros
 
-pub returns-then-j-most : goal.returns-then-j-most
-returns-then-j-most c =
+pub invariant_of-result : goal.invariant_of-result
+invariant_of-result c =
     let p = c.per_micro.ensures in
-    (omega arith, omega (arith, c.if-j-most.true), within _ _ _ (known (goal.at.returns-then-j-most c).After-per_micro) p.0 p.1 _ (omega arith) (omega arith))
-
-pub returns-else-j-most : goal.returns-else-j-most
-returns-else-j-most c =
-    let p = c.per_micro.ensures in
-    (c.requires.most_nonzero, omega arith, within _ _ _ (known (goal.at.returns-else-j-most c).After-per_micro) p.0 p.1 _ c.requires.most_nonzero c.if-j-most.false)
+    let e = c.min.ensures in
+    record { within = within _ _ _ (ok _ c.args.s.in_range).micros p.0 p.1 _ (omega (arith, e, c.requires)) (omega (arith, e)) }
