@@ -7,7 +7,7 @@ use borrow.Author.Rules.{rules}
 use lib.Dec.{ltb, eqb, lit<}
 use borrow.Author.Tests.{ltb-false, not-false}
 use lib.IntN.{ℤ, pos, ◌*ℤ◌}
-use Rattle.std.specs.Prelude.{Some}
+use Rattle.std.specs.Prelude.{Some, None}
 use Rattle.std.specs.Bool.{then_some}
 use Rattle.integers.proofs.Parts.{pos_part, neg_part, parts}
 use Rattle.integers.proofs.Ranges.{and_true, within_parts, between_parts}
@@ -43,6 +43,11 @@ or_false false b e = (refl, e)
 pub chosen : {T : Type 0} (b : Bool) (x y : T) → then_some b x ≡ Some y → (b ≡ true) × (y ≡ x)
 chosen true x y e = (refl, cc)
 chosen false x y e = absurd (cc)
+
+-- a field that is not there is not selected
+pub passed : {T : Type 0} (b : Bool) (x : T) → then_some b x ≡ None → b ≡ false
+passed true x e = absurd (cc)
+passed false x e = refl
 
 pub record Accepted (c : Clock) (r : Request) : Type 0 where
   pub clock : Ok c

@@ -1,8 +1,8 @@
 // What a request that is not refused does to its clock.
 ghost use Rattle.std.specs.Prelude.{◌≡◌, MatchResult};
-ghost use Rattle.state.specs.Units.{offset_units, frequency_units};
+ghost use Rattle.state.specs.Units.{frequency_units};
 ghost use Rattle.state.specs.Refusal.{refusal_number};
-ghost use Rattle.request.specs.Request.{request_refusal, frequency_written, maxerror_written, esterror_written, constant_written, status_written, offset_after, frequency_after, status_after, updated_after, interval_after, requested};
+ghost use Rattle.request.specs.Request.{request_refusal, frequency_written, maxerror_written, esterror_written, constant_written, status_written, status_after, requested};
 
 use crate::gain::{clamped_sum, gain_of};
 use crate::refusal::judged;
@@ -70,27 +70,6 @@ impl Granted {
         asked.map_or(self.clock.constant, |constant| constant as u8)
     }
 
-    fn offset_after(self) -> OffsetUnits
-        ensures { result ≡ offset_units (offset_after self.clock self.request) }
-    {
-        match self.request.selected(ADJ_OFFSET, self.request.offset) {
-            Some(us) => OffsetUnits(us.0 as i32 * OFFSET_PER_MICRO),
-            None => self.clock.offset,
-        }
-    }
-
-    fn frequency_after(self) -> Frequency
-        ensures { result ≡ frequency_units (frequency_after self.clock self.request) }
-    {
-        let f = self.frequency_written();
-        if self.request.selects(ADJ_OFFSET) {
-            let constant = self.constant_written();
-            let g = gain_of(self.request.offset, self.clock.interval, constant);
-            return clamped_sum(f, g);
-        }
-        f
-    }
-
     fn status_after(self) -> u8
         ensures { result ≡ status_after self.clock self.request }
     {
@@ -102,36 +81,29 @@ impl Granted {
         s
     }
 
-    fn updated_after(self) -> u8
-        ensures { result ≡ updated_after self.clock self.request }
-    {
-        self.request
-            .selected(ADJ_OFFSET, 1)
-            .unwrap_or(self.clock.updated)
-    }
-
-    fn interval_after(self) -> u32
-        ensures { result ≡ interval_after self.clock self.request }
-    {
-        self.request
-            .selected(ADJ_OFFSET, 0)
-            .unwrap_or(self.clock.interval)
-    }
-
-    // The clock with every effect of the request.
+    // The clock with every effect of the request: of an offset last, since its gain takes the frequency and the
+    // time constant that the request wrote.
     pub(crate) fn requested(self) -> Clock
         ensures { result ≡ requested self.clock self.request }
     {
-        Clock {
-            offset: self.offset_after(),
-            frequency: self.frequency_after(),
+        let written = Clock {
+            frequency: self.frequency_written(),
             constant: self.constant_written(),
-            updated: self.updated_after(),
-            interval: self.interval_after(),
             maxerror: self.maxerror_written(),
             esterror: self.esterror_written(),
             status: self.status_after(),
             ..self.clock
+        };
+        let Some(offset) = self.request.selected(ADJ_OFFSET, self.request.offset) else {
+            return written;
+        };
+        let gain = gain_of(offset, written.interval, written.constant);
+        Clock {
+            offset: OffsetUnits(offset.0 as i32 * OFFSET_PER_MICRO),
+            frequency: clamped_sum(written.frequency, gain),
+            updated: 1,
+            interval: 0,
+            ..written
         }
     }
 }
