@@ -5,7 +5,7 @@ use state::{Clock, Micros, REFUSED_STATE, TIME_BAD, in_range};
 
 // What a clock shows.
 #[repr(C)]
-#[derive(Clone, Copy)]
+#[derive(Clone, Copy, Debug, PartialEq, Eq)]
 pub struct Reading {
     pub seconds: u32,
     pub micros: Micros,
@@ -16,7 +16,7 @@ pub struct Reading {
 
 // The answer of a reading: refusal 0 with what the clock shows, or refusal 1 with zeros and status 4.
 #[repr(C)]
-#[derive(Clone, Copy)]
+#[derive(Clone, Copy, Debug, PartialEq, Eq)]
 pub struct Told {
     pub refusal: u8,
     pub reading: Reading,
