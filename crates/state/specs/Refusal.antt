@@ -1,6 +1,6 @@
 -- "Numbers of the refusals": the table of document 01, and the numbers that document 02 adds to it, each by a
 -- name; and what a refused call answers. 0 stands for no refusal.
-use Rattle.std.specs.Prelude.{◌≡◌, ℕ, Bool, false, cond, eqb, leb, ◌&&◌, Result, MatchResult}
+use Rattle.std.specs.Prelude.{◌≡◌, ℕ, Bool, false, cond, eqb, leb, ◌&&◌, Result, Ok, Err, MatchResult}
 use Rattle.state.specs.declared.state.Clock.{Clock}
 use Rattle.state.specs.declared.outcome.Outcome.{Outcome}
 use Rattle.state.specs.declared.refusal.Refusal.{Refusal}
@@ -104,6 +104,11 @@ refusal_number R.Ceiling = refused_ceiling
 refusal_number R.Soon = refused_soon
 refusal_number R.Place = refused_place
 refusal_number R.Table = refused_table
+
+-- the refusal of a call that hands back nothing else: 0 where it was accepted
+abbrev pub refusal_of : Result Unit Refusal → ℕ
+refusal_of (Ok _) = 0
+refusal_of (Err r) = refusal_number r
 
 -- some refusal has this number: the table's numbers have no gap
 abbrev pub in_table : ℕ → Bool
