@@ -8,7 +8,7 @@ ghost use Rattle.playback.specs.Inner.{at_quarter, PutsQuarters, lists_on, fille
 
 use crate::lines::{put_log, put_print, put_quarter, put_refused};
 use clock::{Clock, KIND_256, fresh, run_ticks};
-use history::{Entry, Event, asks_summary};
+use history::{Event, asks_summary};
 use state::{REFUSED_BEYOND, REFUSED_ROOM};
 use summary::{QUARTERS, Summary, empty, step_in_place};
 
@@ -126,15 +126,15 @@ impl Walk {
         ensures { Advances bytes.now self m.old out.old out.new result m.new }
     {
         match history::read(bytes, self.place) {
-            Entry::Whole { event, next } => {
+            Ok(entry) => {
                 let here = Walk {
-                    place: next,
+                    place: entry.next,
                     ..self
                 };
-                here.run_event(event, m, out)
+                here.run_event(entry.event, m, out)
             }
-            Entry::Refused(refusal) => {
-                let at = put_log(out, self.at, refusal, self.place as u32);
+            Err(refusal) => {
+                let at = put_log(out, self.at, refusal.number(), self.place as u32);
                 Walk {
                     ended: true,
                     at: at,
