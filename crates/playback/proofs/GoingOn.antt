@@ -15,6 +15,8 @@ use Rattle.playback.specs.Run.{longest_history, end_of}
 use Rattle.playback.specs.Filling.{longest_line, Fills}
 use Rattle.playback.specs.Inner.{Made, at_quarter, PutsQuarters, lists_on, ending, filled}
 use Rattle.playback.specs.declared.run.Run.{Run}
+use Rattle.playback.specs.declared.run.Listed.{Listed}
+use Rattle.playback.specs.declared.run.Filling.{Filling}
 use Rattle.playback.proofs.Buffers.{puts_none, puts_length}
 use Rattle.playback.proofs.RunLaws.{step_end}
 use Rattle.playback.proofs.FillLaws.{stepped, made_one, made_then, made_all}
@@ -46,10 +48,10 @@ module _ (s : List ℕ) (run : Run) (buf : List ℕ) (going : run.ended ≡ fals
 
     -- the events have not come to the end of the bytes
     pub stopped_early : ((now.ended || ltb now.place (length s)) || ltb last at) ≡ true → ((not now.ended && ltb now.place (length s)) && leb at last) ≡ false
-        → Fills s run buf out (filled now at)
-    stopped_early t u =
+        → {r : Filling} → r ≡ filled now at → Fills s run buf out r
+    stopped_early t u e =
         made_all s run buf going (omega arith) m
-        (⊎_elim (λ h. inl h) (λ h. inr (omega arith)) (stops now.ended (ltb now.place (length s)) at last t u)) refl
+        (⊎_elim (λ h. inl h) (λ h. inr (omega arith)) (stops now.ended (ltb now.place (length s)) at last t u)) e
 
     module _ (t : ((now.ended || ltb now.place (length s)) || ltb last at) ≡ false) where
       -- they have, and there is room for one more line
@@ -63,37 +65,34 @@ module _ (s : List ℕ) (run : Run) (buf : List ℕ) (going : run.ended ≡ fals
       within = ltb-false last at (neither (now.ended || ltb now.place (length s)) _ t).1
 
       -- a history that does not ask for the summary ends
-      pub ended_there : asks_summary s ≡ false → Fills s run buf out (filled (end_of now) at)
-      ended_there a =
+      pub ended_there : asks_summary s ≡ false → {r : Filling} → r ≡ filled (end_of now) at → Fills s run buf out r
+      ended_there a e =
           let enough : at + longest_line ≤ length out = omega (arith, same, within) in
           let last_step = made_one s going_there enough (stepped (step_end s now going_there fits over (simp a)) refl (puts_none out at) (omega arith)) in
-          made_all s run buf going (omega arith) (made_then s m last_step) (inl refl) refl
+          made_all s run buf going (omega arith) (made_then s m last_step) (inl refl) e
 
       -- one that does goes on with the lines of the summary
-      module _ (a : asks_summary s ≡ true) {end : List ℕ} {listed : Run} {next : ℕ} (p : PutsQuarters now out at end listed next)
-          (i : listed ≡ at_quarter now listed.quarter) (u : lists_on listed next last ≡ false) where
-        to_listed : Made s run buf 0 end listed next
-        to_listed = made_then s m (p s (record { fits = fits; over = over; asked = a }))
+      module _ (a : asks_summary s ≡ true) {end : List ℕ} {l : Listed} (p : PutsQuarters now.summary now.quarter out at end l)
+          (u : lists_on l last ≡ false) where
+        abbrev listed : Run
+        listed = at_quarter now l.quarter
+
+        to_listed : Made s run buf 0 end listed l.at
+        to_listed = made_then s m (p s now (record { fits = fits; going = going_there; over = over; asked = a; summary = refl }))
 
         pub same_there : length end ≡ length buf
         same_there = puts_length to_listed.lines
 
-        going_on : listed.ended ≡ false
-        going_on = ap (λ (x : Run). x.ended) i ∙ going_there
+        by_end : (b : Bool) → (leb quarters l.quarter && leb l.at last) ≡ b → {r : Filling} → r ≡ filled (ending b listed) l.at → Fills s run buf end r
+        by_end true t e =
+            let y = and_true (leb quarters l.quarter) (leb l.at last) t in
+            let none : ltb l.quarter quarters ≡ false = le-ltb _ _ (leb-true _ _ y.0) in
+            let enough : l.at + longest_line ≤ length end = omega (arith, same_there, leb-true l.at last y.1) in
+            let last_step = made_one s going_there enough (stepped (step_end s listed going_there fits over (simp (a, none))) refl (puts_none end l.at) (omega arith)) in
+            made_all s run buf going (omega arith) (made_then s to_listed last_step) (inl refl) e
+        by_end false t e =
+            let h = full l.quarter l.at last u t in
+            made_all s run buf going (omega arith) (rw (going_there) at to_listed) (inr (omega arith)) e
 
-        over_there : length s ≤ listed.place
-        over_there = omega (arith, over, ap (λ (x : Run). x.place) i)
-
-        by_end : (b : Bool) → (leb quarters listed.quarter && leb next last) ≡ b → Fills s run buf end (filled (ending b listed) next)
-        by_end true t =
-            let y = and_true (leb quarters listed.quarter) (leb next last) t in
-            let none : ltb listed.quarter quarters ≡ false = le-ltb _ _ (leb-true _ _ y.0) in
-            let enough : next + longest_line ≤ length end = omega (arith, same_there, leb-true next last y.1) in
-            let last_step = made_one s going_on enough (stepped (step_end s listed going_on fits over_there (simp (a, none))) refl (puts_none end next) (omega arith)) in
-            made_all s run buf going (omega arith) (made_then s to_listed last_step) (inl refl) refl
-        by_end false t =
-            let h = full listed.quarter next last u t in
-            made_all s run buf going (omega arith) (rw (going_on) at to_listed) (inr (omega arith)) refl
-
-        pub listed_there : Fills s run buf end (filled (ending (leb quarters listed.quarter && leb next last) listed) next)
-        listed_there = by_end _ refl
+        pub listed_there : {r : Filling} → r ≡ filled (ending (leb quarters l.quarter && leb l.at last) listed) l.at → Fills s run buf end r
+        listed_there e = by_end _ refl e

@@ -13,6 +13,7 @@ use Rattle.playback.specs.Run.{longest_history, step, run_after, lines_of}
 use Rattle.playback.specs.Filling.{longest_line}
 use Rattle.playback.specs.declared.run.Run.{Run}
 use Rattle.playback.specs.declared.run.Walk.{Walk}
+use Rattle.playback.specs.declared.run.Listed.{Listed}
 use Rattle.playback.specs.declared.run.Filling.{Filling}
 
 -- the bytes ws were stored from place `at` on, and `next` is the place after them
@@ -83,19 +84,22 @@ goes_on s w last = (not w.ended && ltb w.place (length s)) && leb w.at last
 abbrev pub at_quarter : Run → ℕ → Run
 at_quarter r q = record { clock = r.clock; place = r.place; ended = r.ended; quarter = q; summary = r.summary }
 
--- a run has come to the end of a history that asks for the summary
-pub record Summing (s : List ℕ) (place : ℕ) : Type 0 where
+-- a run has come to the end of a history that asks for the summary, and m is its summary
+pub record Summing (s : List ℕ) (r : Run) (m : Summary) : Type 0 where
   pub fits : length s ≤ longest_history
-  pub over : length s ≤ place
+  pub going : r.ended ≡ false
+  pub over : length s ≤ r.place
   pub asked : asks_summary s ≡ true
+  pub summary : r.summary ≡ m
 
--- the lines of quarter-hours were put, whatever the history
-abbrev pub PutsQuarters : Run → List ℕ → ℕ → List ℕ → Run → ℕ → Type 0
-PutsQuarters run buf at buf' now next = (s : List ℕ) → Summing s run.place → Made s run buf at buf' now next
+-- the lines of quarter-hours were put, whatever the history and the run
+abbrev pub PutsQuarters : Summary → ℕ → List ℕ → ℕ → List ℕ → Listed → Type 0
+PutsQuarters m first buf at buf' l =
+    (s : List ℕ) (r : Run) → Summing s r m → Made s (at_quarter r first) buf at buf' (at_quarter r l.quarter) l.at
 
 -- where quarter-hours end: at the last, or for want of room
-abbrev pub lists_on : Run → (at last : ℕ) → Bool
-lists_on run at last = ltb run.quarter quarters && leb at last
+abbrev pub lists_on : Listed → ℕ → Bool
+lists_on l last = ltb l.quarter quarters && leb l.at last
 
 -- the run at the end of a summary's lines, or before it
 abbrev pub ending : Bool → Run → Run

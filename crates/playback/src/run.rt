@@ -4,7 +4,7 @@ ghost use Rattle.history.specs.declared.Event.TheVariants.{Call};
 ghost use Rattle.playback.specs.Run.{longest_history, start_of_run};
 ghost use Rattle.playback.specs.Filling.{longest_line, run_limits, Fills};
 ghost use Rattle.playback.specs.Inner.{is_reading, RunsEvent, AtEvent, Advances, RunsEvents, goes_on};
-ghost use Rattle.playback.specs.Inner.{at_quarter, PutsQuarters, lists_on, filled};
+ghost use Rattle.playback.specs.Inner.{PutsQuarters, lists_on, filled};
 
 use crate::lines::{put_log, put_print, put_quarter, put_refused};
 use clock::{Clock, KIND_256, fresh, run_ticks};
@@ -158,57 +158,29 @@ impl Walk {
     }
 }
 
-impl Run {
-    // Writes the lines of the summary, as far as there is room for one more line. The next quarter-hour is a part
-    // of the run, from which a later call goes on.
-    fn put_quarters(&mut self, out: &mut [u8], start: usize, last: usize) -> usize
-        requires { (last + longest_line ≡ length out.old) × (start ≤ last) × (self.old.ended ≡ false) }
-        ensures puts_quarters { PutsQuarters self.old out.old start out.new self.new result }
-        ensures stands { self.new ≡ at_quarter self.old self.new.quarter }
-        ensures stopped { lists_on self.new result last ≡ false }
-    {
-        let mut at = start;
-        while (self.quarter < QUARTERS) & (at <= last) {
-            let q = self.quarter;
-            at = put_quarter(
-                out,
-                at,
-                q as u32,
-                self.summary.counts[q],
-                self.summary.largest[q],
-            );
-            self.quarter = q + 1;
-        }
-        at
-    }
+// The next quarter-hour, and the place after the lines of those before it.
+#[derive(Clone, Copy)]
+struct Listed {
+    quarter: usize,
+    at: usize,
+}
 
-    // Goes on with a run that has not ended, over a history that is not too long, with room for a line: with its
-    // events, and at the end of the bytes with the summary, where it is asked for.
-    fn go_on(&mut self, bytes: &[u8], out: &mut [u8]) -> usize
-        requires { (longest_line ≤ length out.old) × (self.old.ended ≡ false) × (length bytes.now ≤ longest_history) }
-        ensures { Fills bytes.now self.old out.old out.new (filled self.new result) }
-    {
-        let last = out.len() - LONGEST_LINE;
-        let start = Walk {
-            clock: self.clock,
-            place: self.place,
-            ended: false,
-            at: 0,
-        };
-        let walk = start.run_events(bytes, &mut self.summary, out, last);
-        self.clock = walk.clock;
-        self.place = walk.place;
-        self.ended = walk.ended;
-        if walk.ended | (walk.place < bytes.len()) | (last < walk.at) {
-            return walk.at;
-        }
-        if !asks_summary(bytes) {
-            self.ended = true;
-            return walk.at;
-        }
-        let end = self.put_quarters(out, walk.at, last);
-        self.ended = (QUARTERS <= self.quarter) & (end <= last);
-        end
+// Writes the lines of a summary from a quarter-hour on, as far as there is room for one more line. A loop that
+// counts, and no `for`, since a later call goes on at the quarter-hour where it stops.
+fn put_quarters(m: &Summary, first: usize, out: &mut [u8], start: usize, last: usize) -> Listed
+    requires { (last + longest_line ≡ length out.old) × (start ≤ last) }
+    ensures puts_quarters { PutsQuarters m.now first out.old start out.new result }
+    ensures last_value { lists_on result last ≡ false }
+{
+    let mut quarter = first;
+    let mut at = start;
+    while (quarter < QUARTERS) & (at <= last) {
+        at = put_quarter(out, at, quarter as u32, m.counts[quarter], m.largest[quarter]);
+        quarter += 1;
+    }
+    Listed {
+        quarter: quarter,
+        at: at,
     }
 }
 
@@ -232,9 +204,46 @@ fn filled(run: Run, length: usize) -> Filling
     }
 }
 
+// Goes on with a run that has not ended, over a history that is not too long, with room for a line: with its
+// events, and at the end of the bytes with the summary, where it is asked for.
+fn go_on(bytes: &[u8], run: Run, out: &mut [u8]) -> Filling
+    requires { (longest_line ≤ length out.old) × (run.ended ≡ false) × (length bytes.now ≤ longest_history) }
+    ensures { Fills bytes.now run out.old out.new result }
+{
+    let last = out.len() - LONGEST_LINE;
+    let mut summary = run.summary;
+    let start = Walk {
+        clock: run.clock,
+        place: run.place,
+        ended: false,
+        at: 0,
+    };
+    let walk = start.run_events(bytes, &mut summary, out, last);
+    let now = Run {
+        clock: walk.clock,
+        place: walk.place,
+        ended: walk.ended,
+        quarter: run.quarter,
+        summary: summary,
+    };
+    if walk.ended | (walk.place < bytes.len()) | (last < walk.at) {
+        return filled(now, walk.at);
+    }
+    if !asks_summary(bytes) {
+        return filled(Run { ended: true, ..now }, walk.at);
+    }
+    let listed = put_quarters(&summary, run.quarter, out, walk.at, last);
+    let end = Run {
+        ended: (QUARTERS <= listed.quarter) & (listed.at <= last),
+        quarter: listed.quarter,
+        ..now
+    };
+    filled(end, listed.at)
+}
+
 // Goes on with a run until it has ended or the buffer has no room for one more line. Later bytes of the
 // buffer stay. A run that has ended stays as it is, with any buffer.
-pub fn fill(bytes: &[u8], mut run: Run, out: &mut [u8]) -> Filling
+pub fn fill(bytes: &[u8], run: Run, out: &mut [u8]) -> Filling
     ensures { Fills bytes.now run out.old out.new result }
 {
     if run.ended {
@@ -248,10 +257,8 @@ pub fn fill(bytes: &[u8], mut run: Run, out: &mut [u8]) -> Filling
         };
     }
     if LONGEST_HISTORY < bytes.len() {
-        run.ended = true;
         let length = put_log(out, 0, REFUSED_BEYOND, LONGEST_HISTORY as u32);
-        return filled(run, length);
+        return filled(Run { ended: true, ..run }, length);
     }
-    let length = run.go_on(bytes, out);
-    filled(run, length)
+    go_on(bytes, run, out)
 }
