@@ -8,7 +8,7 @@ use crate::divided::Divided;
 use crate::sound::Sound;
 use state::{
     Clock, LAST_SECOND, MICROS_PER_SECOND, Micros, Outcome, PHASE_PER_MICRO, PhaseParts,
-    PhaseUnits, Refusal,
+    PhaseUnits, REFUSED_LAST, REFUSED_STATE,
 };
 
 // The microseconds, the phase and the leftover that ticks lead to, before a rollover takes a second off.
@@ -91,9 +91,16 @@ impl Sound {
         ensures { result ≡ tick_of self.clock }
     {
         if self.clock.seconds == LAST_SECOND {
-            return Outcome::refused(self.clock, Refusal::Last);
+            return Outcome {
+                refusal: REFUSED_LAST,
+                clock: self.clock,
+            };
         }
-        Outcome::accepted(self.at(a.less_a_second()).rollover().clock)
+        let rolled = self.at(a.less_a_second()).rollover();
+        Outcome {
+            refusal: 0,
+            clock: rolled.clock,
+        }
     }
 }
 
@@ -102,11 +109,17 @@ pub fn tick(c: Clock) -> Outcome
     ensures { result ≡ tick_of c }
 {
     let Some(sound) = Sound::of(c) else {
-        return Outcome::refused(c, Refusal::State);
+        return Outcome {
+            refusal: REFUSED_STATE,
+            clock: c,
+        };
     };
     let a = sound.advance();
     if a.micros.0 < MICROS_PER_SECOND {
-        return Outcome::accepted(moved_to(c, a));
+        return Outcome {
+            refusal: 0,
+            clock: moved_to(sound.clock, a),
+        };
     }
     sound.overflow(a)
 }

@@ -8,7 +8,7 @@ use Rattle.clock.proofs.timer.tick.Goals as goal
 
 pub returns-in_default : goal.returns-in_default
 unfolding tick_of tick_refusal
-returns-in_default c = simp (c.refused.ensures, c.in_default.ensures)
+returns-in_default c = simp (c.in_default.ensures)
 
 pub returns-then-a-lt-MICROS_PER_SECOND : goal.returns-then-a-lt-MICROS_PER_SECOND
 unfolding tick_of tick_refusal ticked
@@ -17,4 +17,4 @@ returns-then-a-lt-MICROS_PER_SECOND c =
     let e : s.clock ≡ c.args.c = c.in-Some.ensures in
     let a = c.advance-a.ensures ∙ ap advance_of e in
     let l : rolls_over c.args.c ≡ false = rw a at (lt-leb _ _ c.if-a-lt-MICROS_PER_SECOND.true) in
-    simp (c.accepted.ensures, rw e at s.in_range, l, c.moved_to.ensures, a)
+    simp (rw e at s.in_range, l, c.moved_to.ensures, e, a)

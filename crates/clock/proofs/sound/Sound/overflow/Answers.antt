@@ -10,7 +10,7 @@ use Rattle.clock.proofs.sound.Sound.overflow.Goals as goal
 pub returns-then-self-eq-LAST_SECOND : goal.returns-then-self-eq-LAST_SECOND
 unfolding tick_of tick_refusal
 returns-then-self-eq-LAST_SECOND c =
-    simp (c.refused.ensures, c.args.self.in_range, c.requires.full, eq-eqb _ _ c.if-self-eq-LAST_SECOND.true)
+    simp (c.args.self.in_range, c.requires.full, eq-eqb _ _ c.if-self-eq-LAST_SECOND.true)
 
 pub at-requires : goal.at-requires
 at-requires c =
@@ -21,4 +21,4 @@ at-requires c =
 pub returns : goal.returns
 unfolding tick_of tick_refusal ticked
 returns c =
-    simp (c.accepted.ensures, c.args.self.in_range, c.requires.full, c.rollover.ensures, c.at.ensures, c.less_a_second.ensures, c.requires.ticked, ne_eqb _ _ c.if-self-eq-LAST_SECOND.false)
+    simp (c.args.self.in_range, c.requires.full, c.rollover-rolled.ensures, c.at.ensures, c.less_a_second.ensures, c.requires.ticked, ne_eqb _ _ c.if-self-eq-LAST_SECOND.false)
