@@ -16,8 +16,8 @@ use request::Request;
 // The greatest number that `clock::fresh` can be given, and no kind.
 const LAST_BYTE: u64 = 255;
 
-// C cuts a number to the width of its argument and says nothing: so it is 64 bits wide, and judged before it
-// is cut.
+// C cuts a number to the width of its argument and says nothing: so the kind is a number of 64 bits and no enum,
+// and judged before it is cut.
 #[unsafe(no_mangle)]
 pub extern "C" fn heukelvos_fresh(kind: u64) -> Outcome
     ensures { result ≡ fresh_of kind }
@@ -72,11 +72,14 @@ pub extern "C" fn heukelvos_read(c: Clock) -> Told
     clock::read(c)
 }
 
-// `out` is a pointer and a length in C.
+// `out` is a pointer and a length in C, which reads the refusal as its number, or 0.
 #[unsafe(no_mangle)]
 pub extern "C" fn heukelvos_label(c: Clock, out: &mut [u8]) -> u8
     ensures value { result ≡ write_refusal c out.old }
     ensures out_after { out.new ≡ written_to c out.old }
 {
-    label::write(c, out)
+    match label::write(c, out) {
+        Ok(()) => 0,
+        Err(refusal) => refusal.number(),
+    }
 }

@@ -1,6 +1,7 @@
 -- Document 02, Req 07, for C: the event of a rig's call as a code and numbers.
-use Rattle.std.specs.Prelude.{◌≡◌, cond, List, ℕ, eqb, ltb}
-use Rattle.state.specs.Refusal.{refused_field, refuse}
+use Rattle.std.specs.Prelude.{◌≡◌, cond, List, ℕ, eqb, ltb, Result, MatchResult}
+use Rattle.state.specs.Refusal.{refused_field, refuse, refusal_number}
+use Rattle.state.specs.declared.refusal.Refusal.{Refusal}
 use Rattle.state.specs.declared.state.Clock.{Clock}
 use Rattle.event.specs.declared.event.Call.TheVariants.{Tick, Setting, Request, Reading}
 use Rattle.event.specs.declared.event.Event.{Event}
@@ -22,6 +23,13 @@ event_of e =
     (cond (eqb e.code 2) (Call (Request e.request))
     (cond (eqb e.code 4) (CatchUp e.ceiling e.stop) (Call Reading))))
 
+-- the event of a known code, or the refusal of an unknown one
+abbrev pub EventOf : CodedEvent → Result Event Refusal → Type 0
+EventOf e r =
+    MatchResult r
+    (λ event. (code_refusal e.code ≡ 0) × (event ≡ event_of e))
+    (λ refusal. code_refusal e.code ≡ refusal_number refusal)
+
 -- every event has a code: the lent table takes them all
 pub record CodeOf (e : Event) : Type 0 where
   pub coded : CodedEvent
@@ -30,10 +38,6 @@ pub record CodeOf (e : Event) : Type 0 where
 
 abbrev pub EveryEventCoded : Type 0
 EveryEventCoded = (e : Event) → CodeOf e
-
--- what is refused before a clock is looked at: 12, then 19 and 18
-abbrev pub coded_refusal : ℕ → ℕ → ℕ → ℕ
-coded_refusal clocks place code = refuse (ltb 4 code) refused_field (table_refusal clocks place)
 
 -- The call's answer and the table after it: 12 comes before the table is looked at; else all is as for the
 -- event.

@@ -1,22 +1,17 @@
 // An event on one clock of a lent table. The event is a code and numbers, since an enum cannot cross to C.
 ghost use Rattle.std.specs.Prelude.{◌≡◌};
-ghost use Rattle.event.specs.Event.{step_of};
-ghost use Rattle.rig.specs.Rig.{bare_answer, parted};
-ghost use Rattle.heukelvos_rig.specs.RigEvent.{coded_answer_at, coded_refusal, coded_table_at, event_of};
+ghost use Rattle.heukelvos_rig.specs.RigEvent.{coded_answer_at, coded_table_at, EventOf};
 
 use clock::{AskedMicros, Clock};
 use event::{Call, Event};
 use request::Request;
-use rig::{Answer, Parted, bare_answer, event_on, table_answer};
-use state::REFUSED_FIELD;
-
-// The greatest code that stands for an event.
-const LAST_CODE: u64 = 4;
+use rig::{Answer, bare_answer, event_on, table_answer};
+use state::Refusal;
 
 // An event. Code 0 is a tick, 1 a setting to `seconds` and `micros`, 2 the request, 3 a reading, 4 a catch-up
 // of up to `ceiling` ticks that may `stop` at a rollover. Only the numbers of its code are looked at.
 #[repr(C)]
-#[derive(Clone, Copy)]
+#[derive(Clone, Copy, Debug, PartialEq, Eq)]
 pub struct CodedEvent {
     pub code: u64,
     pub seconds: u64,
@@ -26,42 +21,22 @@ pub struct CodedEvent {
     pub stop: bool,
 }
 
-// The event of a code. Of an unknown code nothing is made, and a reading stands for it.
-fn event_of(e: CodedEvent) -> Event
-    ensures { result ≡ event_of e }
-{
-    let code = e.code;
-    match code {
-        0 => Event::Call(Call::Tick),
-        1 => {
-            let micros = e.micros;
-            Event::Call(Call::Setting(e.seconds, micros))
-        }
-        2 => {
-            let request = e.request;
-            Event::Call(Call::Request(request))
-        }
-        3 => Event::Call(Call::Reading),
-        4 => Event::CatchUp(e.ceiling, e.stop),
-        _ => Event::Call(Call::Reading),
-    }
-}
+// The event of a code; or refusal 12, of an unknown one.
+impl TryFrom<CodedEvent> for Event {
+    type Error = Refusal;
 
-// What is refused before a clock is looked at: 12 for an unknown code, then what the table refuses. Like the
-// step below it takes no reference, so that only the table is left to a proof by hand.
-fn judged(clocks: usize, place: usize, code: u64) -> Answer
-    ensures { result ≡ bare_answer (coded_refusal clocks place code) }
-{
-    if LAST_CODE < code {
-        return bare_answer(REFUSED_FIELD);
-    }
-    table_answer(clocks, place)
-}
+    ghost try_from_gives = { EventOf };
 
-fn coded_step(c: Clock, e: CodedEvent) -> Parted
-    ensures { result ≡ parted (step_of c (event_of e)) }
-{
-    event_on(c, event_of(e))
+    fn try_from(e: CodedEvent) -> Result<Self, Refusal> {
+        match e.code {
+            0 => Ok(Event::Call(Call::Tick)),
+            1 => Ok(Event::Call(Call::Setting(e.seconds, e.micros))),
+            2 => Ok(Event::Call(Call::Request(e.request))),
+            3 => Ok(Event::Call(Call::Reading)),
+            4 => Ok(Event::CatchUp(e.ceiling, e.stop)),
+            _ => Err(Refusal::Field),
+        }
+    }
 }
 
 // 12 for an unknown code, then 19, then 18, before any clock is looked at; then what the event answers on the
@@ -71,11 +46,15 @@ fn coded_step(c: Clock, e: CodedEvent) -> Parted
 pub extern "C" fn heukelvos_event_at(table: &mut [Clock], place: usize, e: CodedEvent) -> Answer
     ensures { (result ≡ coded_answer_at table.old place e) × (table.new ≡ coded_table_at table.old place e) }
 {
-    let refused = judged(table.len(), place, e.code);
+    let event = match Event::try_from(e) {
+        Ok(event) => event,
+        Err(refusal) => return bare_answer(refusal.number()),
+    };
+    let refused = table_answer(table.len(), place);
     if refused.refusal != 0 {
         return refused;
     }
-    let done = coded_step(table[place], e);
+    let done = event_on(table[place], event);
     if done.answer.refusal != 0 {
         return done.answer;
     }

@@ -37,12 +37,5 @@ pub(crate) fn clamped_sum(f: Frequency, g: Frequency) -> Frequency
     requires g_value { within greatest_gain g.0 ≡ true }
     ensures { result ≡ frequency_units (clamp (f.0 +ℤ g.0)) }
 {
-    let z = f.0 + g.0;
-    if z < MIN_FREQUENCY {
-        return Frequency(MIN_FREQUENCY);
-    }
-    if MAX_FREQUENCY < z {
-        return Frequency(MAX_FREQUENCY);
-    }
-    Frequency(z)
+    Frequency((f.0 + g.0).clamp(MIN_FREQUENCY, MAX_FREQUENCY))
 }

@@ -2,7 +2,7 @@
 use borrow.Author.Rules.{rules}
 use lib.Dec.{eqb}
 use mathlib.Core.Bool.{false}
-use mathlib.Core.Path.{◌≡◌, sym, ◌∙◌}
+use mathlib.Core.Path.{◌≡◌, sym}
 use Rattle.state.specs.Refusal.{refusal_number}
 use Rattle.state.specs.declared.refusal.Refusal.{Refusal}
 use Rattle.request.specs.Request.{request_of, request_refusal}
