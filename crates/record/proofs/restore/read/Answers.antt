@@ -154,14 +154,14 @@ returns-in_default-d-6 c =
     (at-parts _ c.in-Ok.h c.in-Ok.ensures c.in-Ok-d.t c.in-Ok-d.ensures c.in-Ok-d-2.l c.in-Ok-d-2.ensures c.in-Ok-d-3.a c.in-Ok-d-3.ensures c.in-Ok-d-4.u c.in-Ok-d-4.ensures c.in-Ok-d-5.e c.in-Ok-d-5.ensures
     ∙ group_err (part_fields _) _ _ (λ x. whole (clock_of c.in-Ok.h.value c.in-Ok-d.t.value c.in-Ok-d-2.l.value c.in-Ok-d-3.a.value c.in-Ok-d-4.u.value c.in-Ok-d-5.e.value x)) c.parts_at-d.ensures c.unwrap_err-in_default-d-6.ensures))
 
-pub returns-then-end-bytes : goal.returns-then-end-bytes
+pub returns-then-p-bytes : goal.returns-then-p-bytes
 unfolding reading_of
-returns-then-end-bytes c =
-    c.refused-then-end-bytes.ensures
+returns-then-p-bytes c =
+    c.refused-then-p-bytes.ensures
     ∙ sym (ap restored (at-end _ c.in-Ok.h c.in-Ok.ensures c.in-Ok-d.t c.in-Ok-d.ensures c.in-Ok-d-2.l c.in-Ok-d-2.ensures c.in-Ok-d-3.a c.in-Ok-d-3.ensures c.in-Ok-d-4.u c.in-Ok-d-4.ensures c.in-Ok-d-5.e c.in-Ok-d-5.ensures c.in-Ok-d-6.p c.in-Ok-d-6.ensures) ∙ followed _ _ _ (omega arith))
 
 pub returns : goal.returns
 unfolding reading_of
 returns c =
-    rw c.clock_of.ensures
+    rw c.clock_of-clock.ensures
     (sym (ap restored (at-end _ c.in-Ok.h c.in-Ok.ensures c.in-Ok-d.t c.in-Ok-d.ensures c.in-Ok-d-2.l c.in-Ok-d-2.ensures c.in-Ok-d-3.a c.in-Ok-d-3.ensures c.in-Ok-d-4.u c.in-Ok-d-4.ensures c.in-Ok-d-5.e c.in-Ok-d-5.ensures c.in-Ok-d-6.p c.in-Ok-d-6.ensures) ∙ ended _ _ _ (omega arith)))
