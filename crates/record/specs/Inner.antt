@@ -1,7 +1,7 @@
 -- What the reader's private functions answer. No public promise names these.
 use Rattle.std.specs.Prelude.{◌≡◌, List, ℕ, ◌*◌, ◌-◌, ℤ, Bool, cond, ◌&&◌, leb, eqb, Result, Ok, Err}
 use Rattle.std.specs.Int.Signed.{le_z}
-use Rattle.number.specs.Layout.{Layout, Outcome, got, failed, read_from}
+use Rattle.number.specs.Layout.{Layout, Outcome, failed, read_from}
 use Rattle.number.specs.Reading.{Found, number, refused}
 use Rattle.state.specs.Device.{device_of}
 use Rattle.state.specs.Units.{offset_units_per_micro, phase_units_per_micro}
@@ -41,11 +41,6 @@ mapped_parts kind = 2 * ((device_of kind).divisor - 1)
 -- the largest number behind the flag of an earlier update
 abbrev pub last_most : ℕ → ℕ → ℕ
 last_most version flag = cond (eqb flag 1) (cond (eqb version 1) last_second longest_interval) 0
-
--- what the reader of all fields answers
-abbrev pub told_clock : Result Clock Refusal → Outcome Clock
-told_clock (Ok c) = got c
-told_clock (Err refusal) = failed (refusal_number refusal)
 
 -- A reading that goes on, from the place after it, with what was read; a refusal ends it.
 abbrev pub went_on : {A : Type 0} → Result (Read A) Refusal → (A → Layout Clock) → List ℕ → Outcome Clock

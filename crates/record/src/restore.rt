@@ -1,9 +1,9 @@
 // Reading a clock's record.
 ghost use Rattle.std.specs.Prelude.{◌≡◌};
-ghost use Rattle.number.specs.Layout.{read_from};
 ghost use Rattle.record.specs.Layout.{record_layout, head_fields, time_fields, loop_fields, rate_fields, update_fields, error_fields, part_fields};
-ghost use Rattle.record.specs.Reading.{reading_of};
-ghost use Rattle.record.specs.Inner.{told_clock, ReadsGroup, last_most, mapped_parts};
+ghost use Rattle.record.specs.Reading.{reading_of, refused_with};
+ghost use Rattle.state.specs.Refusal.{refusal_number};
+ghost use Rattle.record.specs.Inner.{ReadsGroup, last_most, mapped_parts};
 
 use crate::field::{Read, plain, signed, since, small, version};
 use crate::groups::{Errors, Head, Loop, Parts, Rate, Time, Update, clock_of, kept_update};
@@ -32,48 +32,61 @@ pub struct Restored {
     pub clock: Clock,
 }
 
-// The clock that the bytes are a record of.
+// A refused reading is rare: said to the compiler, this keeps the way through all fields without a call.
+#[cold]
+fn refused(refusal: Refusal) -> Restored
+    ensures { result ≡ refused_with (refusal_number refusal) }
+{
+    Restored {
+        refusal: refusal.number(),
+        clock: fresh(KIND_256).clock,
+    }
+}
+
+// The clock that the bytes are a record of: group by group, and then nothing may follow. With `?` for each
+// group, in a function that gives a Result, a reading took 537 instructions in the place of 470.
 pub fn read(bytes: &[u8]) -> Restored
     ensures { result ≡ reading_of bytes.now }
 {
-    match clock_in(bytes) {
-        Ok(clock) => Restored { refusal: 0, clock },
-        Err(refusal) => Restored {
-            refusal: refusal.number(),
-            clock: fresh(KIND_256).clock,
-        },
+    let d = head_at(bytes);
+    let Ok(h) = d else {
+        return refused(d.unwrap_err());
+    };
+    let d = time_at(bytes, h.next);
+    let Ok(t) = d else {
+        return refused(d.unwrap_err());
+    };
+    let d = loop_at(bytes, t.next);
+    let Ok(l) = d else {
+        return refused(d.unwrap_err());
+    };
+    let d = rate_at(bytes, l.next, h.value.kind);
+    let Ok(a) = d else {
+        return refused(d.unwrap_err());
+    };
+    let d = update_at(bytes, a.next, h.value.version);
+    let Ok(u) = d else {
+        return refused(d.unwrap_err());
+    };
+    let d = errors_at(bytes, u.next);
+    let Ok(e) = d else {
+        return refused(d.unwrap_err());
+    };
+    let d = parts_at(bytes, e.next, h.value);
+    let Ok(p) = d else {
+        return refused(d.unwrap_err());
+    };
+    if p.next < bytes.len() {
+        return refused(Refusal::Beyond);
     }
+    let clock = clock_of(
+        h.value, t.value, l.value, a.value, u.value, e.value, p.value,
+    );
+    Restored { refusal: 0, clock }
 }
 
-// The groups of fields one after the other, behind which nothing may follow.
-fn clock_in(bytes: &[u8]) -> Result<Clock, Refusal>
-    ensures { told_clock result ≡ read_from record_layout bytes.now 0 }
-{
-    let head = head_at(bytes)?;
-    let h = head.value;
-    let time = time_at(bytes, head.next)?;
-    let tuning = loop_at(bytes, time.next)?;
-    let rate = rate_at(bytes, tuning.next, h.kind)?;
-    let update = update_at(bytes, rate.next, h.version)?;
-    let errors = errors_at(bytes, update.next)?;
-    let parts = parts_at(bytes, errors.next, h)?;
-    let end = parts.next;
-    if end < bytes.len() {
-        return Err(Refusal::Beyond);
-    }
-    Ok(clock_of(
-        h,
-        time.value,
-        tuning.value,
-        rate.value,
-        update.value,
-        errors.value,
-        parts.value,
-    ))
-}
-
-// The groups of fields. Each field's answer is taken apart by `let .. else`, the form that document 01 names,
-// where `?` would say the same.
+// The groups of fields. Each field's answer is taken apart by `let .. else`, the form that document 01 names;
+// `?` would say the same.
 
 // Version and kind, which stand at the beginning.
 fn head_at(bytes: &[u8]) -> Result<Read<Head>, Refusal>
