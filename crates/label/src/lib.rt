@@ -40,7 +40,7 @@ pub fn write(c: Clock, out: &mut [u8]) -> Result<(), Refusal>
 }
 
 // The answer of `read`: refusal 0 with the second and whether it was a 60, which repeats the 59 before it; or
-// refusal 15 with second 0 and no 60. It is no Result: document 01 gives a refused label a second and a 60 too.
+// refusal 15 with second 0 and no 60. It is no Result, since document 01 gives a refused label these values.
 #[derive(Clone, Copy, Debug, PartialEq, Eq)]
 pub struct UtcSecond {
     pub refusal: u8,

@@ -94,6 +94,7 @@ pub(crate) fn put_label(seconds: u32, out: &mut [u8; SIZE])
 pub(crate) fn put_sixty(seconds: u32, out: &mut [u8; SIZE])
     ensures { out.new ≡ (if nat_eq (seconds % seconds_per_day) last_second_of_day then slice_set (slice_set out.old 17 (digit 6)) 18 (digit 0) else out.old) }
 {
+    // Asked of the next second: asked of this one, it is a test that the compiler makes for every label.
     if (seconds as u64 + 1) % DAY == 0 {
         out[17] = b'6';
         out[18] = b'0';
