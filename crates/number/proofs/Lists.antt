@@ -10,14 +10,10 @@ use lib.Dec.{ltb}
 use lib.ListN.{length, get_or, drop, set}
 use lib.Seq.{sets, drop-cons}
 use borrow.Author.Tests.{ltb-true}
+pub use Rattle.std.proofs.lemmas.Bool.{cases_Bool as either}
 use Rattle.std.proofs.Common.{Fits, w8}
 use Rattle.integers.proofs.Ranges.{and_true}
 use Rattle.number.specs.Form.{Bytes}
-
--- a test is true or false
-pub either : (b : Bool) → (b ≡ true) ⊎ (b ≡ false)
-either true = inl refl
-either false = inr refl
 
 -- a list from a place on, by what stands there
 pub opened : (s : List ℕ) (at x : ℕ) → at < length s → x ≡ get_or s at 0 → drop at s ≡ x ∷ drop (at + 1) s

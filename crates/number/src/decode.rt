@@ -79,10 +79,10 @@ fn read_long(bytes: &[u8], at: usize, low: u64) -> Result<Number, Refusal>
     };
     let b2 = u64::from(b2);
     let v3 = low + THIRD_GROUP * b2;
-    let p = at + 1;
     if b2 < SAYS_MORE {
-        return ended(v3, THIRD_GROUP, p);
+        return ended(v3, THIRD_GROUP, at + 1);
     }
+    let p = at + 1;
     let Some(&b3) = bytes.get(p) else {
         return Err(Refusal::Ended);
     };
