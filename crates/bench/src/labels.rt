@@ -27,7 +27,10 @@ pub(crate) fn writes(count: u64) -> u64 {
     let mut i: u64 = 0;
     while i < count {
         c = later(c);
-        let refusal = label::write(c, &mut text);
+        let refusal = match label::write(c, &mut text) {
+            Ok(()) => 0,
+            Err(refusal) => refusal.number(),
+        };
         let p = (i % 16) as usize;
         sum = mix(
             mix(mix(sum, refusal as u64), wide(text[p])),
@@ -48,7 +51,7 @@ fn fill_labels(texts: &mut [u8])
     while i < 64 {
         c = later(c);
         let p = 20 * i;
-        label::write(c, &mut texts[p..]);
+        let _ = label::write(c, &mut texts[p..]);
         i += 1;
     }
 }

@@ -1,6 +1,5 @@
 -- The reader's answers: what each of its tests says of the clocks that could have written the bytes.
-use Rattle.std.proofs.Common.{◌≡◌, ℕ, ◌+◌, ◌*◌, ◌/◌, ◌%◌, ◌<◌, ◌≤◌, Bool, true, false, cond, ◌&&◌, eqb, ltb, ◌⊎◌, List, length, sym, refl, ap, ◌∙◌, inl, inr, ⊎_elim, true≢false, arith, ltb-false, ltb-true, eq-eqb, eqb-true, le-leb, Option, Some, None}
-use borrow.Author.Tests.{eqb-false}
+use Rattle.std.proofs.Common.{◌≡◌, ℕ, ◌+◌, ◌*◌, ◌/◌, ◌%◌, ◌<◌, ◌≤◌, Bool, true, false, cond, eqb, ◌⊎◌, List, length, sym, refl, ap, ◌∙◌, inl, inr, ⊎_elim, true≢false, arith, eq-eqb, eqb-true, le-leb, Option, Some, None}
 use Rattle.integers.proofs.Ranges.{and_true}
 use Rattle.state.specs.declared.state.Clock.{Clock}
 use Rattle.state.specs.Device.{kind256, device_of}
@@ -11,13 +10,13 @@ use Rattle.calendar.specs.declared.Date.{Date}
 use Rattle.calendar.specs.Calendar.{date_of, days}
 use Rattle.calendar.specs.Search.{FoundAs, found, none}
 use Rattle.calendar.proofs.Dates.{one_day, same_parts}
-use Rattle.label.specs.Label.{label_of, is_sixty, label_size}
+use Rattle.label.specs.Label.{label_of, is_sixty, label_size, inserted_second}
 use Rattle.label.specs.Reading.{label, no_label, WrittenFor, ReadsAs, accepted, refused}
 use Rattle.label.specs.Inner.{pair_at, is_marked, date_at, AlikeDate, ShownBy, shown, unshown}
 use Rattle.label.proofs.Digits.{alike_small, small_alike}
 use Rattle.label.proofs.Parts.{Ranges, ranges}
 use Rattle.label.proofs.Bytes.{Says, says, written}
-use Rattle.label.proofs.DayTime.{time_at, shown_once}
+use Rattle.label.proofs.DayTime.{shown_once, sixty_shown}
 
 -- ---- clocks and their labels
 
@@ -93,18 +92,6 @@ last_day = last_second / seconds_per_day
 abbrev pub last_day_end : ℕ
 last_day_end = last_second % seconds_per_day
 
-pub day_known : {d : Date} {n : ℕ} → FoundAs d (Some n) → n < days
-day_known (found known e) = known
-
--- a day and a second of it that are not past the last second, where no later end is tested
-pub in_time_lem : {d : Date} {n h m s t end : ℕ} {sixty : Bool} → FoundAs d (Some n) → ShownBy h m s (time_at t sixty)
-    → eqb n last_day && ltb end t ≡ false → end ≤ last_day_end → seconds_per_day * n + t ≤ last_second
-in_time_lem {n = n} {t = t} {end = end} (found known e) (shown w) f l = by_day (eqb n last_day) refl f
-  where
-    by_day : (last : Bool) → eqb n last_day ≡ last → last && ltb end t ≡ false → seconds_per_day * n + t ≤ last_second
-    by_day true e f = omega (arith, eqb-true n last_day e, ltb-false end t f)
-    by_day false e f = let early : n ≡ last_day → ⊥ = eqb-false n last_day e in omega (arith, known, w.within)
-
 module _ (text : List ℕ) where
   pub not_twenty : (length text ≡ label_size → ⊥) → ReadsAs text no_label
   not_twenty f = refuses (λ s sixty w. f w.long)
@@ -118,17 +105,16 @@ module _ (text : List ℕ) where
   pub not_timed : ShownBy (pair_at text 11) (pair_at text 14) (pair_at text 17) None → ReadsAs text no_label
   not_timed (unshown f) = refuses (λ s sixty w. f (s % seconds_per_day) sixty w.time)
 
-  module _ (n t : ℕ) (sixty : Bool) where
-    pub too_late : {end : ℕ} → FoundAs (date_at text) (Some n) → ShownBy (pair_at text 11) (pair_at text 14) (pair_at text 17) (time_at t sixty)
-        → eqb n last_day && ltb end t ≡ true → last_day_end ≤ end → ReadsAs text no_label
-    too_late {end} (found h e) (shown w) l late =
-        let p = and_true (eqb n last_day) (ltb end t) l in
+  module _ (n t : ℕ) where
+    pub too_late : FoundAs (date_at text) (Some n) → ShownBy (pair_at text 11) (pair_at text 14) (pair_at text 17) (Some t)
+        → last_second < seconds_per_day * n + t → ReadsAs text no_label
+    too_late (found h e) (shown w) late =
         refuses (λ s sixty' w'.
         let day : n ≡ s / seconds_per_day = one_day n (s / seconds_per_day) (sym e ∙ w'.date) in
-        omega (arith, day, eqb-true n last_day p.0, ltb-true end t p.1, (shown_once w w'.time).0, w'.bound))
+        omega (arith, day, (shown_once w w'.time).0, w'.bound))
 
     pub is_label : length text ≡ label_size → is_marked text ≡ true → FoundAs (date_at text) (Some n)
-        → ShownBy (pair_at text 11) (pair_at text 14) (pair_at text 17) (time_at t sixty)
-        → seconds_per_day * n + t ≤ last_second → ReadsAs text (label (seconds_per_day * n + t) sixty)
-    is_label long marked (found h e) (shown w) l =
-        accepts (seconds_per_day * n + t) sixty l (λ x. omega (arith, w.last x)) (written text long marked n t sixty h e w)
+        → ShownBy (pair_at text 11) (pair_at text 14) (pair_at text 17) (Some t)
+        → seconds_per_day * n + t ≤ last_second → ReadsAs text (label (seconds_per_day * n + t) (eqb (pair_at text 17) inserted_second))
+    is_label long marked (found h e) (shown {sixty = sixty} w) l =
+        rw (sixty_shown sixty w) (accepts (seconds_per_day * n + t) sixty l (λ x. omega (arith, w.last x)) (written text long marked n t sixty h e w))

@@ -1,18 +1,14 @@
 -- The second of a day that an hour, a minute and a second show: what the tests of `time_of` say, and that no
 -- two are shown alike.
-use Rattle.std.proofs.Common.{◌≡◌, ℕ, ◌+◌, ◌-◌, ◌*◌, ◌/◌, ◌%◌, ◌<◌, ◌≤◌, Bool, true, false, cond, ◌&&◌, ◌||◌, eqb, leb, sym, refl, ◌∙◌, true≢false, arith, eq-eqb, eqb-true, leb-false, Option, Some, None}
+use Rattle.std.proofs.Common.{◌≡◌, ℕ, ◌+◌, ◌-◌, ◌*◌, ◌/◌, ◌%◌, ◌<◌, ◌≤◌, Bool, true, false, cond, ◌&&◌, ◌||◌, eqb, leb, sym, refl, ap, ◌∙◌, true≢false, arith, eq-eqb, ne_eqb, eqb-true, leb-false, Option, Some, None}
+use Rattle.std.specs.Bool.{then_some}
 use native.Mathlib.Nat.{div-div-eq-div-mul}
 use borrow.Author.Tests.{lt-leb}
 use Rattle.integers.proofs.Ranges.{and_true}
 use Rattle.state.specs.Units.{last_second_of_day}
-use Rattle.label.specs.declared.fields.DayTime.{DayTime}
-use Rattle.label.specs.Inner.{Alike, Shows, ShownBy, shown, unshown}
+use Rattle.label.specs.Inner.{Alike, same, large, Shows, ShownBy, shown, unshown}
 use Rattle.label.specs.Label.{seconds_per_minute, minutes_per_hour, hours_per_day, seconds_per_hour, inserted_second}
 use Rattle.label.proofs.Digits.{alike_small, small_alike}
-
--- a second of a day, found
-abbrev pub time_at : ℕ → Bool → Option DayTime
-time_at t sixty = Some (record { second = t; sixty = sixty })
 
 or_false : (a b : Bool) → a || b ≡ false → (a ≡ false) × (b ≡ false)
 or_false true b e = absurd (true≢false e)
@@ -34,7 +30,16 @@ module _ {t t' h m s : ℕ} where
 pub shown_once : {t t' h m s : ℕ} {sixty sixty' : Bool} → Shows t sixty h m s → Shows t' sixty' h m s → (t ≡ t') × (sixty ≡ sixty')
 shown_once {sixty = x} {sixty' = x'} w w' = shown_once_by x x' w w'
 
+-- a 60 is shown where the second reads so
+pub sixty_shown : {t h m s : ℕ} (sixty : Bool) → Shows t sixty h m s → eqb s inserted_second ≡ sixty
+sixty_shown {s = s} true w = eq-eqb s inserted_second w.second
+sixty_shown {s = s} false w = ne_eqb s inserted_second (omega (arith, w.second))
+
 -- ---- numbers that are alike show the same
+
+pub sixty_alike : {s s' : ℕ} → Alike s s' → eqb s inserted_second ≡ eqb s' inserted_second
+sixty_alike (same e) = ap (λ (n : ℕ). eqb n inserted_second) e
+sixty_alike {s} {s'} (large p q) = rw (ne_eqb s inserted_second (omega arith), ne_eqb s' inserted_second (omega arith)) refl
 
 second_small : (t : ℕ) (sixty : Bool) → cond sixty inserted_second (t % seconds_per_minute) < 100
 second_small t true = omega arith
@@ -54,7 +59,7 @@ module _ {t h m s : ℕ} {sixty : Bool} (w : Shows t sixty h m s) where
   shows_of p q r =
       record { within = w.within; last = w.last; hour = sym p ∙ w.hour; minute = sym q ∙ w.minute; second = sym r ∙ w.second }
 
-pub shown_alike : {h h' m m' s s' : ℕ} {r : Option DayTime} → Alike h h' → Alike m m' → Alike s s' → ShownBy h m s r → ShownBy h' m' s' r
+pub shown_alike : {h h' m m' s s' : ℕ} {r : Option ℕ} → Alike h h' → Alike m m' → Alike s s' → ShownBy h m s r → ShownBy h' m' s' r
 shown_alike p q r (shown w) =
     shown (shows_of w (alike_small p (hour_small w)) (alike_small q (minute_small w)) (alike_small r (seconds_small w)))
 shown_alike p q r (unshown f) = unshown (λ t sixty w.
@@ -77,7 +82,7 @@ module _ (h m s : ℕ) where
       (sym e ∙ rw (lt-leb hours_per_day h (omega (arith, w.hour, w.within)), lt-leb minutes_per_hour m (omega (arith, w.minute)))))
 
   module _ (minute : (h < hours_per_day) × (m < minutes_per_hour)) where
-    pub usual : s < seconds_per_minute → ShownBy h m s (time_at (seconds_per_minute * (minutes_per_hour * h + m) + s) false)
+    pub usual : s < seconds_per_minute → ShownBy h m s (Some (seconds_per_minute * (minutes_per_hour * h + m) + s))
     usual l =
         shown {t = seconds_per_minute * (minutes_per_hour * h + m) + s} {sixty = false} (record {
           within = omega arith;
@@ -87,7 +92,7 @@ module _ (h m s : ℕ) where
           second = omega arith;
         })
 
-    pub day_end : eqb s inserted_second && eqb (minutes_per_hour * h + m) last_minute ≡ true → ShownBy h m s (time_at last_second_of_day true)
+    pub day_end : eqb s inserted_second && eqb (minutes_per_hour * h + m) last_minute ≡ true → ShownBy h m s (Some last_second_of_day)
     day_end e =
         let p = and_true (eqb s inserted_second) (eqb (minutes_per_hour * h + m) last_minute) e in
         let last = eqb-true (minutes_per_hour * h + m) last_minute p.1 in
@@ -107,3 +112,9 @@ module _ (h m s : ℕ) where
         by_mark t true w =
             true≢false
             (sym (rw (eq-eqb s inserted_second w.second, eq-eqb (minutes_per_hour * h + m) last_minute (omega (arith, w.last refl, w.hour, w.minute)))) ∙ e)
+
+    -- a second past the minute's is shown by a day's last alone, as its 60
+    pub repeated : (last : Bool) → eqb s inserted_second && eqb (minutes_per_hour * h + m) last_minute ≡ last → seconds_per_minute ≤ s
+        → ShownBy h m s (then_some last last_second_of_day)
+    repeated true e l = day_end e
+    repeated false e l = no_second l e

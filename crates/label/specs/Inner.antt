@@ -3,9 +3,7 @@ use Rattle.std.specs.Prelude.{◌≡◌, ℕ, ◌+◌, ◌-◌, ◌*◌, ◌/◌
 use Rattle.state.specs.Units.{seconds_per_day, last_second_of_day}
 use Rattle.calendar.specs.declared.Date.{Date}
 use Rattle.label.specs.Label.{digit_zero, hyphen, letter_t, colon, letter_z, two, seconds_per_minute, minutes_per_hour, seconds_per_hour, inserted_second}
-use Rattle.label.specs.declared.fields.DayTime.{DayTime}
-use Rattle.label.specs.declared.UtcSecond.{UtcSecond}
-use Rattle.label.specs.Reading.{label, no_label}
+use Rattle.label.specs.declared.fields.Time.{Time}
 
 -- ---- the writer
 
@@ -53,6 +51,15 @@ pub record AlikeDate (d e : Date) : Type 0 where
   pub month : Alike d.month e.month
   pub day : Alike d.day e.day
 
+-- the time that the digits say, if they are digits
+abbrev pub time_at : List ℕ → Time
+time_at text = record { hour = pair_at text 11; minute = pair_at text 14; second = pair_at text 17 }
+
+pub record AlikeTime (t u : Time) : Type 0 where
+  pub hour : Alike t.hour u.hour
+  pub minute : Alike t.minute u.minute
+  pub second : Alike t.second u.second
+
 -- the second t of a day, with a 60 or without, shows this hour, minute and second
 pub record Shows (t : ℕ) (sixty : Bool) (h m s : ℕ) : Type 0 where
   pub within : t < seconds_per_day
@@ -62,11 +69,6 @@ pub record Shows (t : ℕ) (sixty : Bool) (h m s : ℕ) : Type 0 where
   pub second : s ≡ cond sixty inserted_second (t % seconds_per_minute)
 
 -- the second of the day that shows this hour, minute and second, or that none does
-pub data ShownBy (h m s : ℕ) : Option DayTime → Type 0 where
-  shown : {t : ℕ} {sixty : Bool} → Shows t sixty h m s → ShownBy h m s (Some (record { second = t; sixty = sixty }))
+pub data ShownBy (h m s : ℕ) : Option ℕ → Type 0 where
+  shown : {t : ℕ} {sixty : Bool} → Shows t sixty h m s → ShownBy h m s (Some t)
   unshown : ((t : ℕ) (sixty : Bool) → Shows t sixty h m s → ⊥) → ShownBy h m s None
-
--- what the reader answers of the second that it finds
-abbrev pub reading_of : Option (ℕ × Bool) → UtcSecond
-reading_of (Some p) = label p.0 p.1
-reading_of None = no_label

@@ -1,6 +1,7 @@
 // The fields of twenty bytes that may be a label: each is judged on its own, and none is trusted.
-ghost use Rattle.std.specs.Prelude.{◌≡◌};
-ghost use Rattle.label.specs.Inner.{Alike, pair_of, pair_at, is_marked, date_at, AlikeDate, ShownBy};
+ghost use Rattle.std.specs.Prelude.{◌≡◌, ◌==◌};
+ghost use Rattle.label.specs.Inner.{Alike, pair_of, is_marked, date_at, AlikeDate, time_at, AlikeTime, ShownBy};
+ghost use Rattle.label.specs.Label.{inserted_second};
 
 use crate::SIZE;
 use crate::units::{HOURS_PER_DAY, LAST_SECOND_OF_DAY, MINUTES_PER_HOUR, SECONDS_PER_MINUTE};
@@ -62,44 +63,44 @@ pub(crate) fn date_at(text: &[u8; SIZE]) -> Date
     }
 }
 
-// A second of a day, and whether it was shown as the 60 that repeats the last one.
+// The time of day that a label shows.
 #[derive(Clone, Copy)]
-pub(crate) struct DayTime {
-    pub(crate) second: u32,
-    pub(crate) sixty: bool,
+pub(crate) struct Time {
+    hour: u32,
+    minute: u32,
+    second: u32,
 }
 
-// The second of a day that an hour, a minute and a second show.
-fn time_of(hour: u32, minute: u32, second: u32) -> Option<DayTime>
-    ensures { ShownBy hour minute second result }
+// The time that the digits say; no time where a byte is no digit.
+pub(crate) fn time_at(text: &[u8; SIZE]) -> Time
+    ensures { AlikeTime result (time_at text.now) }
 {
-    if (HOURS_PER_DAY <= hour) | (MINUTES_PER_HOUR <= minute) {
-        return None;
-    }
-    let minutes = MINUTES_PER_HOUR * hour + minute;
-    if second < SECONDS_PER_MINUTE {
-        return Some(DayTime {
-            second: SECONDS_PER_MINUTE * minutes + second,
-            sixty: false,
-        });
-    }
-    if (second == INSERTED_SECOND) & (minutes == LAST_MINUTE) {
-        Some(DayTime {
-            second: LAST_SECOND_OF_DAY,
-            sixty: true,
-        })
-    } else {
-        None
+    Time {
+        hour: pair(text[11], text[12]),
+        minute: pair(text[14], text[15]),
+        second: pair(text[17], text[18]),
     }
 }
 
-// The second of a day that the digits say.
-pub(crate) fn time_at(text: &[u8; SIZE]) -> Option<DayTime>
-    ensures { ShownBy (pair_at text.now 11) (pair_at text.now 14) (pair_at text.now 17) result }
-{
-    time_of(
-        pair(text[11], text[12]),
-        pair(text[14], text[15]),
-        pair(text[17], text[18]),
-    )
+impl Time {
+    // The second of a day that shows this time; a 60 is the last one's, shown again.
+    pub(crate) fn second_of_day(self) -> Option<u32>
+        ensures { ShownBy self.hour self.minute self.second result }
+    {
+        if (HOURS_PER_DAY <= self.hour) | (MINUTES_PER_HOUR <= self.minute) {
+            return None;
+        }
+        let minutes = MINUTES_PER_HOUR * self.hour + self.minute;
+        if SECONDS_PER_MINUTE <= self.second {
+            let repeats = self.is_sixty() & (minutes == LAST_MINUTE);
+            return repeats.then_some(LAST_SECOND_OF_DAY);
+        }
+        Some(SECONDS_PER_MINUTE * minutes + self.second)
+    }
+
+    pub(crate) fn is_sixty(self) -> bool
+        ensures { result ≡ (self.second == inserted_second) }
+    {
+        self.second == INSERTED_SECOND
+    }
 }

@@ -6,21 +6,18 @@ mod fields;
 mod text;
 mod units;
 
-ghost use Rattle.std.specs.Prelude.{◌≡◌};
+ghost use Rattle.std.specs.Prelude.{◌≡◌, ◌+◌, ◌*◌, ◌<◌, ◌≤◌, MatchOption, unwrap_or};
 ghost use Rattle.state.specs.Refusal.{refusal_of};
-ghost use Rattle.label.specs.Inner.{reading_of};
+ghost use Rattle.state.specs.State.{last_second};
+ghost use Rattle.state.specs.Units.{seconds_per_day};
+ghost use Rattle.calendar.specs.Calendar.{days};
 ghost use Rattle.label.specs.Writing.{write_refusal, written_to, Readable};
-ghost use Rattle.label.specs.Reading.{ReadsAs};
+ghost use Rattle.label.specs.Reading.{no_label, ReadsAs};
 
-use state::{Clock, LAST_SECOND, Refusal, SECONDS_PER_DAY, TIME_OOP, in_range};
+use state::{Clock, REFUSED_LABEL, Refusal, SECONDS_PER_DAY, TIME_OOP, in_range};
 
 // Bytes of a label.
 const SIZE: usize = 20;
-
-// The last second that the clock can tell: its day, and which of that day's seconds it is (06:28:15).
-const LAST_DAY: u32 = LAST_SECOND / SECONDS_PER_DAY;
-
-const LAST_DAY_END: u32 = LAST_SECOND % SECONDS_PER_DAY;
 
 // Writes the clock's label into the first twenty bytes of `out`, and leaves the later ones. Refuses a clock
 // out of range, then a buffer of fewer than twenty bytes, and leaves the buffer as it was.
@@ -43,7 +40,7 @@ pub fn write(c: Clock, out: &mut [u8]) -> Result<(), Refusal>
 }
 
 // The answer of `read`: refusal 0 with the second and whether it was a 60, which repeats the 59 before it; or
-// refusal 15 with second 0 and no 60. It is no Result: document 01 gives a refused label a second and a 60 too.
+// refusal 15 with second 0 and no 60. It is no Result, since document 01 gives a refused label these values.
 #[derive(Clone, Copy, Debug, PartialEq, Eq)]
 pub struct UtcSecond {
     pub refusal: u8,
@@ -51,35 +48,41 @@ pub struct UtcSecond {
     pub sixty: bool,
 }
 
-// The second that a label shows, and whether it is shown as a 60; none where the bytes are no label.
-fn second_of(text: &[u8]) -> Option<(u32, bool)>
-    ensures { ReadsAs text.now (reading_of result) }
+// The answer to bytes that are no label.
+const NO_LABEL: UtcSecond = UtcSecond {
+    refusal: REFUSED_LABEL,
+    seconds: 0,
+    sixty: false,
+};
+
+// The second since 1970 that is the given one of a day; none past 2106-02-07T06:28:15Z, the last of 32 bits.
+fn seconds_of(day: u32, second: u32) -> Option<u32>
+    requires { day < days }
+    ensures { MatchOption result (last_second < seconds_per_day * day + second) (λ s. (s ≡ seconds_per_day * day + second) × (s ≤ last_second)) }
+{
+    (SECONDS_PER_DAY * day).checked_add(second)
+}
+
+// The second that a label shows; none where the bytes are no label.
+fn second_of(text: &[u8]) -> Option<UtcSecond>
+    ensures { ReadsAs text.now (unwrap_or result no_label) }
 {
     let text = text.as_array::<SIZE>()?;
     if !fields::is_marked(text) {
         return None;
     }
-    let time = fields::time_at(text)?;
     let day = calendar::day_of(fields::date_at(text))?;
-    if (day == LAST_DAY) & (LAST_DAY_END < time.second) {
-        return None;
-    }
-    Some((SECONDS_PER_DAY * day + time.second, time.sixty))
+    let time = fields::time_at(text);
+    let second = time.second_of_day()?;
+    Some(UtcSecond {
+        refusal: 0,
+        seconds: seconds_of(day, second)?,
+        sixty: time.is_sixty(),
+    })
 }
 
 pub fn read(text: &[u8]) -> UtcSecond
     ensures { ReadsAs text.now result }
 {
-    match second_of(text) {
-        Some((seconds, sixty)) => UtcSecond {
-            refusal: 0,
-            seconds,
-            sixty,
-        },
-        None => UtcSecond {
-            refusal: Refusal::Label.number(),
-            seconds: 0,
-            sixty: false,
-        },
-    }
+    second_of(text).unwrap_or(NO_LABEL)
 }

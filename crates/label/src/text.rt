@@ -5,37 +5,38 @@ ghost use Rattle.label.specs.Label.{digit, two, seconds_per_minute, minutes_per_
 ghost use Rattle.label.specs.Inner.{time_text};
 
 use crate::SIZE;
-use crate::units::{LAST_SECOND_OF_DAY, MINUTES_PER_HOUR, SECONDS_PER_HOUR, SECONDS_PER_MINUTE};
+use crate::units::{MINUTES_PER_HOUR, SECONDS_PER_HOUR, SECONDS_PER_MINUTE};
 use state::SECONDS_PER_DAY;
 
-// The digit 0 and the marks between pairs of digits, in ASCII.
-const ZERO: u64 = 0x30;
-
+// The marks between pairs of digits, in ASCII.
 const HYPHEN: u64 = 0x2D;
 
 const COLON: u64 = 0x3A;
 
-// A minute and an hour in seconds, and an hour in minutes.
+// A minute, an hour and a day in seconds, and an hour in minutes.
 const MINUTE: u64 = SECONDS_PER_MINUTE as u64;
 
 const HOUR: u64 = SECONDS_PER_HOUR as u64;
 
-const HOUR_MINUTES: u64 = MINUTES_PER_HOUR as u64;
+const DAY: u64 = SECONDS_PER_DAY as u64;
 
-// The two digits of a number below 100, in ASCII.
-fn two_digits(n: u64) -> [u8; 2]
-    requires { n < 100 }
-    ensures { result ≡ two n }
-{
-    // A tenth, without a division.
-    let tenth = n * 103 / 1024;
-    [(ZERO + tenth) as u8, (ZERO + (n - 10 * tenth)) as u8]
-}
+const HOUR_MINUTES: u64 = MINUTES_PER_HOUR as u64;
 
 // Eight bytes in one word: a zero in each byte of a digit, a 1 in the bytes of the marks.
 const ZEROS: u64 = 0x3030_0030_3000_3030;
 
 const MARKS: u64 = 0x0000_0100_0001_0000;
+
+// The two digits of a number below 100, in ASCII. A number n with the tenth t has the digits t and n - 10 t,
+// the first in the lower byte: 256 n - 2559 t.
+fn two_digits(n: u64) -> [u8; 2]
+    requires { n < 100 }
+    ensures { result ≡ two n }
+{
+    // A tenth, without a division.
+    let t = n * 103 / 1024;
+    ((0x100 * n + ZEROS % 0x1_0000 - 2559 * t) as u16).to_le_bytes()
+}
 
 // Three numbers in two digits each, with a mark between them. All bytes are worked out in one word, 24 bits
 // for each number.
@@ -49,7 +50,6 @@ fn marked_pairs(a: u64, b: u64, c: u64, mark: u64) -> [u8; 8]
     let t = p % 0x10
         + 0x100_0000 * (p / 0x100_0000 % 0x10)
         + 0x1_0000_0000_0000 * (p / 0x1_0000_0000_0000 % 0x10);
-    // A number n with the tenth t has the digits t and n - 10 t, the first in the lower byte: 256 n - 2559 t.
     let w = 0x100 * x + (ZEROS + MARKS * mark) - 2559 * t;
     w.to_le_bytes()
 }
@@ -77,13 +77,14 @@ pub(crate) fn put_label(seconds: u32, out: &mut [u8; SIZE])
     let year = date.year as u64;
     // A hundredth of a year to 2106, without a division.
     let century = year * 5243 / 524288;
-    out[..2].copy_from_slice(&two_digits(century));
-    out[2..10].copy_from_slice(&marked_pairs(
+    let of_century = marked_pairs(
         year - 100 * century,
         date.month as u64,
         date.day as u64,
         HYPHEN,
-    ));
+    );
+    out[..2].copy_from_slice(&two_digits(century));
+    out[2..10].copy_from_slice(&of_century);
     out[10] = b'T';
     out[11..19].copy_from_slice(&time_text(seconds));
     out[19] = b'Z';
@@ -93,7 +94,8 @@ pub(crate) fn put_label(seconds: u32, out: &mut [u8; SIZE])
 pub(crate) fn put_sixty(seconds: u32, out: &mut [u8; SIZE])
     ensures { out.new ≡ (if nat_eq (seconds % seconds_per_day) last_second_of_day then slice_set (slice_set out.old 17 (digit 6)) 18 (digit 0) else out.old) }
 {
-    if seconds % SECONDS_PER_DAY == LAST_SECOND_OF_DAY {
+    // Asked of the next second: asked of this one, it is a test that the compiler makes for every label.
+    if (seconds as u64 + 1) % DAY == 0 {
         out[17] = b'6';
         out[18] = b'0';
     }

@@ -1,7 +1,8 @@
 -- `label::second_of` meets its contract: each test refuses only bytes that no clock's label has, and what passes
 -- all is a label.
 use Rattle.std.proofs.Common.{sym, ◌∙◌, arith, rules}
-use Rattle.label.proofs.Accept.{found_alike, not_twenty, not_marked, not_dated, not_timed, too_late, in_time_lem, is_label}
+use Rattle.label.proofs.Accept.{found_alike, not_twenty, not_marked, not_dated, not_timed, too_late, is_label}
+use Rattle.label.proofs.DayTime.{shown_alike, sixty_alike}
 use Rattle.label.proofs.second_of.Goals as goal
 
 pub returns-in_err-text : goal.returns-in_err-text
@@ -9,25 +10,38 @@ returns-in_err-text c = rw c.from_residual.ensures (not_twenty _ c.in_err-text.e
 
 pub returns-then-not-is_marked : goal.returns-then-not-is_marked
 returns-then-not-is_marked c =
-    rw c.in_ok-text.ensures.cases.same at (not_marked c.in_ok-text.text.now (sym c.is_marked.ensures ∙ c.if-not-is_marked.true))
+    let text = c.in_ok-text.text.now in
+    rw c.in_ok-text.ensures.cases.same at (not_marked text (sym c.is_marked.ensures ∙ c.if-not-is_marked.true))
 
-pub returns-in_err-time : goal.returns-in_err-time
-returns-in_err-time c =
-    rw c.from_residual-in_err-time.ensures (rw c.in_ok-text.ensures.cases.same at (not_timed c.in_ok-text.text.now c.in_err-time.ensures))
+pub returns-in_err-second : goal.returns-in_err-second
+returns-in_err-second c =
+    let text = c.in_ok-text.text.now in
+    let alike = c.time_at-time.ensures in
+    rw c.from_residual-in_err-second.ensures
+    (rw c.in_ok-text.ensures.cases.same at (not_timed text (shown_alike alike.hour alike.minute alike.second c.in_err-second.ensures)))
 
 pub returns-in_err-day : goal.returns-in_err-day
 returns-in_err-day c =
-    rw c.from_residual-in_err-day.ensures (rw c.in_ok-text.ensures.cases.same at (not_dated c.in_ok-text.text.now (found_alike c.date_at.ensures c.in_err-day.ensures)))
+    let text = c.in_ok-text.text.now in
+    rw c.from_residual-in_err-day.ensures
+    (rw c.in_ok-text.ensures.cases.same at (not_dated text (found_alike c.date_at.ensures c.in_err-day.ensures)))
 
-pub returns-then-day-time : goal.returns-then-day-time
-returns-then-day-time c =
+pub returns-in_err-seconds_of : goal.returns-in_err-seconds_of
+returns-in_err-seconds_of c =
+    let text = c.in_ok-text.text.now in
+    let alike = c.time_at-time.ensures in
     let day = found_alike c.date_at.ensures c.in_ok-day.ensures in
-    rw c.in_ok-text.ensures.cases.same at (too_late c.in_ok-text.text.now _ _ _ day c.in_ok-time.ensures c.if-day-time.true (omega arith))
+    let time = shown_alike alike.hour alike.minute alike.second c.in_ok-second.ensures in
+    rw c.from_residual-in_err-seconds_of.ensures
+    (rw c.in_ok-text.ensures.cases.same at (too_late text _ _ day time c.in_err-seconds_of.ensures))
 
 pub returns : goal.returns
 returns c =
-    let text = c.in_ok-text.ensures.cases in
+    let text = c.in_ok-text.text.now in
+    let alike = c.time_at-time.ensures in
     let day = found_alike c.date_at.ensures c.in_ok-day.ensures in
-    rw text.same at
-    (is_label c.in_ok-text.text.now _ _ _ (search rules) (sym c.is_marked.ensures ∙ c.if-not-is_marked.false) day c.in_ok-time.ensures
-    (in_time_lem day c.in_ok-time.ensures c.if-day-time.false (omega arith)))
+    let time = shown_alike alike.hour alike.minute alike.second c.in_ok-second.ensures in
+    let sixty = c.is_sixty.ensures ∙ sixty_alike alike.second in
+    let seconds = c.in_ok-seconds_of.ensures in
+    rw (← seconds.0, ← sixty, c.in_ok-text.ensures.cases.same) at
+    (is_label text _ _ (search rules) (sym c.is_marked.ensures ∙ c.if-not-is_marked.false) day time (omega (arith, seconds.0, seconds.1)))

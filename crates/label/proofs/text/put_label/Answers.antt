@@ -15,8 +15,8 @@ pub overflow_sub-year : goal.overflow_sub-year
 overflow_sub-year c =
     omega (arith, century_of c.args.seconds (search rules) c.date_of_second-date.ensures)
 
-pub marked_pairs-requires : goal.marked_pairs-requires
-marked_pairs-requires c =
+pub marked_pairs-of_century-requires : goal.marked_pairs-of_century-requires
+marked_pairs-of_century-requires c =
     let r = ranges_of c.args.seconds (search rules) c.date_of_second-date.ensures in (
       omega (arith, century_of c.args.seconds (search rules) c.date_of_second-date.ensures),
       omega (arith, r.month),
@@ -33,5 +33,5 @@ returns c =
     rw (in_century, tens_of_year y, units_of_year y, century, c.date_of_second-date.ensures) at
     (filled c.args.out.now _ _ _ _ _ _ _ (search rules)
     (c.copy_from_slice.ensures.after ∙ c.two_digits.ensures)
-    (c.copy_from_slice-2.ensures.after ∙ c.marked_pairs.ensures)
+    (c.copy_from_slice-2.ensures.after ∙ c.marked_pairs-of_century.ensures)
     (c.copy_from_slice-3.ensures.after ∙ c.time_text.ensures))
