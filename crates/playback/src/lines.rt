@@ -1,5 +1,6 @@
 // The lines that a run writes, each into a lent buffer that has room for it.
 ghost use Rattle.std.specs.Prelude.{◌≡◌, true, ◌++◌, ◌+◌, ◌≤◌, ◌<◌, length};
+ghost use Rattle.state.specs.Refusal.{refusal_number};
 ghost use Rattle.state.specs.State.{in_range};
 ghost use Rattle.label.specs.Label.{digit as Label·digit};
 ghost use Rattle.playback.specs.Lines.{decimal, log_line, print_line, cell_line};
@@ -8,6 +9,7 @@ ghost use Rattle.playback.specs.Filling.{longest_line};
 ghost use Rattle.playback.specs.Inner.{Puts, refusal_line};
 
 use clock::Clock;
+use state::Refusal;
 
 // The length of a label, in bytes.
 const LABEL: usize = 20;
@@ -21,14 +23,11 @@ fn put(out: &mut [u8], at: usize, text: &[u8]) -> usize
     at + text.len()
 }
 
-// The digit 0 in ASCII.
-const ZERO: u32 = 0x30;
-
 // The last decimal digit of n, in ASCII.
 fn digit(n: u32) -> u8
     ensures { result ≡ Label·digit n }
 {
-    (ZERO + n % 10) as u8
+    b'0' + (n % 10) as u8
 }
 
 // Writes n in decimal.
@@ -67,10 +66,12 @@ pub(crate) fn put_refused(out: &mut [u8], at: usize, n: u8) -> usize
 }
 
 // `log N at P`
-pub(crate) fn put_log(out: &mut [u8], at: usize, n: u8, p: u32) -> usize
+pub(crate) fn put_log(out: &mut [u8], at: usize, refusal: Refusal, p: u32) -> usize
     requires { (at + longest_line ≤ length out.old) × (p ≤ longest_history) }
-    ensures { Puts (log_line n p) out.old at out.new result }
+    ensures puts { Puts (log_line (refusal_number refusal) p) out.old at out.new result }
+    ensures small { length (log_line (refusal_number refusal) p) ≤ longest_line }
 {
+    let n = refusal.number();
     let place = put_number(out, at, b"log ", n as u32);
     let end = put_number(out, place, b" at ", p);
     put(out, end, b"\n")

@@ -9,7 +9,7 @@ ghost use Rattle.playback.specs.Inner.{PutsQuarters, lists_on, filled};
 use crate::lines::{put_log, put_print, put_quarter, put_refused};
 use clock::{Clock, KIND_256, fresh, run_ticks};
 use history::{Event, asks_summary};
-use state::{REFUSED_BEYOND, REFUSED_ROOM};
+use state::Refusal;
 use summary::{QUARTERS, Summary, empty, step_in_place};
 
 // The longest history, in bytes.
@@ -89,14 +89,14 @@ impl Walk {
             let at = put_print(out, self.at, self.clock);
             return Walk {
                 clock: answer.clock,
-                at: at,
+                at,
                 ..self
             };
         }
         let at = put_refused(out, self.at, answer.refusal);
         Walk {
             clock: answer.clock,
-            at: at,
+            at,
             ..self
         }
     }
@@ -111,7 +111,7 @@ impl Walk {
                 let at = put_refused(out, self.at, o.refusal);
                 Walk {
                     clock: o.clock,
-                    at: at,
+                    at,
                     ..self
                 }
             }
@@ -134,10 +134,10 @@ impl Walk {
                 here.run_event(entry.event, m, out)
             }
             Err(refusal) => {
-                let at = put_log(out, self.at, refusal.number(), self.place as u32);
+                let at = put_log(out, self.at, refusal, self.place as u32);
                 Walk {
                     ended: true,
-                    at: at,
+                    at,
                     ..self
                 }
             }
@@ -175,13 +175,16 @@ fn put_quarters(m: &Summary, first: usize, out: &mut [u8], start: usize, last: u
     let mut quarter = first;
     let mut at = start;
     while (quarter < QUARTERS) & (at <= last) {
-        at = put_quarter(out, at, quarter as u32, m.counts[quarter], m.largest[quarter]);
+        at = put_quarter(
+            out,
+            at,
+            quarter as u32,
+            m.counts[quarter],
+            m.largest[quarter],
+        );
         quarter += 1;
     }
-    Listed {
-        quarter: quarter,
-        at: at,
-    }
+    Listed { quarter, at }
 }
 
 // The answer of `fill`: refusal 0, where the run stands, and how many bytes of the buffer were written; or
@@ -199,8 +202,8 @@ fn filled(run: Run, length: usize) -> Filling
 {
     Filling {
         refusal: 0,
-        run: run,
-        length: length,
+        run,
+        length,
     }
 }
 
@@ -224,7 +227,7 @@ fn go_on(bytes: &[u8], run: Run, out: &mut [u8]) -> Filling
         place: walk.place,
         ended: walk.ended,
         quarter: run.quarter,
-        summary: summary,
+        summary,
     };
     if walk.ended | (walk.place < bytes.len()) | (last < walk.at) {
         return filled(now, walk.at);
@@ -251,13 +254,13 @@ pub fn fill(bytes: &[u8], run: Run, out: &mut [u8]) -> Filling
     }
     if out.len() < LONGEST_LINE {
         return Filling {
-            refusal: REFUSED_ROOM,
-            run: run,
+            refusal: Refusal::Room.number(),
+            run,
             length: 0,
         };
     }
     if LONGEST_HISTORY < bytes.len() {
-        let length = put_log(out, 0, REFUSED_BEYOND, LONGEST_HISTORY as u32);
+        let length = put_log(out, 0, Refusal::Beyond, LONGEST_HISTORY as u32);
         return filled(Run { ended: true, ..run }, length);
     }
     go_on(bytes, run, out)
