@@ -61,14 +61,13 @@ fn run(line: &[u8]) -> Option<Checksum> {
     let count = count_of(line);
     let values = Values::of(line);
     let word = line.split_inclusive(|b| *b == b' ').next()?;
+    let kind = kind_of(word);
+    let ceiling = ceiling_of(word);
     match word {
-        b"tick " | b"tick-1024 " => Some(clocks::ticks(&values, kind_of(word), count)),
-        b"second " | b"second-1024 " | b"catch-up " | b"catch-up-1024 " => Some(clocks::catch_ups(
-            &values,
-            kind_of(word),
-            ceiling_of(word),
-            count,
-        )),
+        b"tick " | b"tick-1024 " => Some(clocks::ticks(&values, kind, count)),
+        b"second " | b"second-1024 " | b"catch-up " | b"catch-up-1024 " => {
+            Some(clocks::catch_ups(&values, kind, ceiling, count))
+        }
         b"request " => Some(clocks::requests(&values, count)),
         b"label-write " => Some(labels::writes(count)),
         b"label-read " => Some(labels::reads(count)),
