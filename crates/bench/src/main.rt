@@ -47,6 +47,32 @@ fn ceiling_of(word: &[u8]) -> u64 {
     }
 }
 
+#[derive(Clone, Copy)]
+enum Operation {
+    Ticks,
+    CatchUps,
+    Requests,
+    LabelWrites,
+    LabelReads,
+    RecordWrites,
+    RecordReads,
+}
+
+// The words, each with the space behind it.
+const OPERATIONS: [(&[u8], Operation); 11] = [
+    (b"tick ", Operation::Ticks),
+    (b"tick-1024 ", Operation::Ticks),
+    (b"second ", Operation::CatchUps),
+    (b"second-1024 ", Operation::CatchUps),
+    (b"catch-up ", Operation::CatchUps),
+    (b"catch-up-1024 ", Operation::CatchUps),
+    (b"request ", Operation::Requests),
+    (b"label-write ", Operation::LabelWrites),
+    (b"label-read ", Operation::LabelReads),
+    (b"record-write ", Operation::RecordWrites),
+    (b"record-read ", Operation::RecordReads),
+];
+
 // Numbers of as many bytes as the word's last digit says.
 fn run_numbers(line: &[u8], count: u64) -> Option<Checksum> {
     if let Some(digits) = line.strip_prefix(b"number-read-") {
@@ -56,25 +82,23 @@ fn run_numbers(line: &[u8], count: u64) -> Option<Checksum> {
     Some(numbers::round_trips(least_number(digits.first()), count))
 }
 
-// The operation that a line's word, with the space behind it, stands for.
 fn run(line: &[u8]) -> Option<Checksum> {
     let count = count_of(line);
     let values = Values::of(line);
-    let word = line.split_inclusive(|b| *b == b' ').next()?;
+    let found = OPERATIONS.iter().find(|(word, _)| line.starts_with(word));
+    let Some((word, operation)) = found else {
+        return run_numbers(line, count);
+    };
     let kind = kind_of(word);
-    let ceiling = ceiling_of(word);
-    match word {
-        b"tick " | b"tick-1024 " => Some(clocks::ticks(&values, kind, count)),
-        b"second " | b"second-1024 " | b"catch-up " | b"catch-up-1024 " => {
-            Some(clocks::catch_ups(&values, kind, ceiling, count))
-        }
-        b"request " => Some(clocks::requests(&values, count)),
-        b"label-write " => Some(labels::writes(count)),
-        b"label-read " => Some(labels::reads(count)),
-        b"record-write " => Some(records::writes(&values, count)),
-        b"record-read " => Some(records::reads(&values, count)),
-        _ => run_numbers(line, count),
-    }
+    Some(match *operation {
+        Operation::Ticks => clocks::ticks(&values, kind, count),
+        Operation::CatchUps => clocks::catch_ups(&values, kind, ceiling_of(word), count),
+        Operation::Requests => clocks::requests(&values, count),
+        Operation::LabelWrites => labels::writes(count),
+        Operation::LabelReads => labels::reads(count),
+        Operation::RecordWrites => records::writes(&values, count),
+        Operation::RecordReads => records::reads(&values, count),
+    })
 }
 
 fn print_answer(rt: &impl Print, line: &[u8]) -> io::Result<()> {
