@@ -1,12 +1,13 @@
 // Numbers, read, and written and read back.
-use number::Decoded;
+use number::Number;
+use state::Refusal;
 use workload::Checksum;
 
 // The value and the place after it, or the refusal and no place.
-fn parts_of(d: Decoded) -> (u64, usize) {
-    match d {
-        Decoded::Value { value, next } => (value, next),
-        Decoded::Refused(n) => (u64::from(n), 0),
+fn parts_of(read: Result<Number, Refusal>) -> (u64, usize) {
+    match read {
+        Ok(Number { value, next }) => (value, next),
+        Err(refusal) => (u64::from(refusal.number()), 0),
     }
 }
 
@@ -17,9 +18,9 @@ pub(crate) fn round_trips(least: u32, count: u64) -> Checksum {
     let mut sum = Checksum(0);
     for i in 0..count {
         let n = ((u64::from(least) + i % 128) % 4294967296) as u32;
-        let w = number::write(&mut buf, 0, n);
+        let written = number::write(&mut buf, 0, n).unwrap_or(0);
         let (value, next) = parts_of(number::read(&buf, 0));
-        let places = w.next as u64 % 256 + next as u64 % 256;
+        let places = written as u64 % 256 + next as u64 % 256;
         sum = sum.with(value % 4294967296 + places);
     }
     sum
@@ -30,7 +31,7 @@ fn fill(buf: &mut [u8], least: u32) -> usize {
     let mut at = 0;
     for i in 0..128 {
         let n = ((u64::from(least) + i) % 4294967296) as u32;
-        at = number::write(buf, at, n).next;
+        at = number::write(buf, at, n).unwrap_or(0);
     }
     at
 }

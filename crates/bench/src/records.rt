@@ -1,7 +1,7 @@
 // Records, written and read.
 use crate::clocks::after_requests;
 use clock::{Clock, KIND_256, Micros, PhaseUnits, fresh};
-use record::Saved;
+use state::Refusal;
 use workload::{Checksum, Values};
 
 // The clock at another time of its second.
@@ -24,6 +24,14 @@ fn clocks(values: &Values) -> [Clock; 64] {
     all
 }
 
+// The refusal, 0 where there is none, and the length.
+fn with_saved(sum: Checksum, saved: Result<usize, Refusal>) -> Checksum {
+    match saved {
+        Ok(length) => sum.with(0).with(length as u64),
+        Err(refusal) => sum.with(u64::from(refusal.number())).with(0),
+    }
+}
+
 // Of each record two bytes are taken, at places that change with i and meet all of them: so all must have
 // been written.
 pub(crate) fn writes(values: &Values, count: u64) -> Checksum {
@@ -33,9 +41,7 @@ pub(crate) fn writes(values: &Values, count: u64) -> Checksum {
     for i in 0..count {
         let saved = record::write(all[(i % 64) as usize], &mut buf);
         let p = (i % 23) as usize;
-        sum = sum
-            .with(u64::from(saved.refusal))
-            .with(saved.length as u64)
+        sum = with_saved(sum, saved)
             .with(u64::from(buf[p]))
             .with(u64::from(buf[p + 23]));
     }
@@ -56,7 +62,7 @@ fn records(values: &Values) -> [Record; 64] {
         length: 0,
     }; 64];
     for (record, c) in all.iter_mut().zip(clocks(values)) {
-        record.length = record::write(c, &mut record.bytes).length;
+        record.length = record::write(c, &mut record.bytes).unwrap_or(0);
     }
     all
 }
