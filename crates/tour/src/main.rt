@@ -76,9 +76,11 @@ fn tour(rt: &impl Print) -> io::Result<()> {
 // that is written is longer than 45 bytes.
 fn save_and_restore(rt: &impl Print, c: Clock) -> io::Result<()> {
     let mut bytes = [0u8; 45];
-    let saved = record::write(c, &mut bytes);
-    let n = saved.length;
-    show_refusal(rt, "saved", saved.refusal)?;
+    let n = match record::write(c, &mut bytes) {
+        Ok(n) => n,
+        Err(refusal) => return show_refusal(rt, "saved", refusal.number()),
+    };
+    show_refusal(rt, "saved", 0)?;
     let mut copy = bytes;
     damage_and_restore(rt, &mut copy[..n])?;
     restore(rt, "the record", &bytes[..n])

@@ -11,7 +11,6 @@ impl Checksum {
     ghost use Rattle.workload.specs.Checksum.{mixed, mixed_clock};
 
     // One result more: 31 times the checksum's low 58 bits, and the result's low 32 bits added.
-    #[inline]
     #[tactic(auto, unfolding(crate::specs::Checksum::mixed))]
     pub fn with(self, x: u64) -> Checksum
         ensures { result ≡ mixed self x }
@@ -20,7 +19,6 @@ impl Checksum {
     }
 
     // A whole clock more.
-    #[inline]
     pub fn with_clock(self, c: Clock) -> Checksum
         ensures { result ≡ mixed_clock self c }
     {

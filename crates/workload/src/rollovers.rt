@@ -5,7 +5,6 @@ use state::Clock;
 
 // The same clock 64 rollovers later: so no offset comes too soon, and the interval that a request takes
 // moves. It stays below 1,024.
-#[inline]
 pub fn later(c: Clock) -> Clock
     ensures { result ≡ later_of c }
 {

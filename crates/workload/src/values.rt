@@ -34,7 +34,6 @@ impl Values {
     }
 
     // One of them, below 64.
-    #[inline]
     pub fn small(&self, i: u64) -> u32
         ensures { result ≡ small_at self.now i }
     {
@@ -67,14 +66,19 @@ impl Values {
     pub fn clock(&self, kind: u8) -> Clock
         ensures { result ≡ clock_of self.now kind }
     {
+        let micros = Micros(self.small(0));
+        let phase = PhaseUnits(self.times(0, 1));
+        let offset = OffsetUnits(self.times(10, 1638400));
+        let frequency = Frequency(self.times(12, 10289));
+        let adjustment = PhaseUnits(self.times(40, 3355443));
         let error = Micros(self.small(16) * 1000000);
         Clock {
             seconds: self.small(43) * 2000,
-            micros: Micros(self.small(0)),
-            phase: PhaseUnits(self.times(0, 1)),
-            offset: OffsetUnits(self.times(10, 1638400)),
-            frequency: Frequency(self.times(12, 10289)),
-            adjustment: PhaseUnits(self.times(40, 3355443)),
+            micros,
+            phase,
+            offset,
+            frequency,
+            adjustment,
             constant: self.byte(2),
             updated: self.byte(1),
             interval: self.small(0),
@@ -88,15 +92,16 @@ impl Values {
     }
 
     // The i-th request: every choice of fields in turn.
-    #[inline]
     pub fn request(&self, i: u64) -> Request
         ensures { result ≡ request_at self.now i }
     {
         let k = i / 64;
+        let offset = AskedOffset(unmap(self.at(k)));
+        let frequency = AskedFrequency(unmap(self.at(k / 2)));
         Request {
             mode: self.at(i),
-            offset: AskedOffset(unmap(self.at(k))),
-            frequency: AskedFrequency(unmap(self.at(k / 2))),
+            offset,
+            frequency,
             maxerror: AskedMicros(self.at(k / 3)),
             esterror: AskedMicros(self.at(k / 4)),
             status: self.at(k % 4),
