@@ -150,7 +150,7 @@ nobody_reads() {
     new_gate
     cat >"$gate/orders/rt-ci" <<'MOOD'
 (trap ': >"$GATE/heard"; exit 1' TERM; : >"$GATE/ready"; sleep 30 & wait) &
-while sleep 0.1 2>/dev/null || sleep 1; do [ ! -f "$GATE/ready" ] || echo "rt: at work"; done
+while [ -d "$GATE" ] && { sleep 0.1 2>/dev/null || sleep 1; }; do [ ! -f "$GATE/ready" ] || echo "rt: at work"; done
 MOOD
     mkfifo "$gate/ear"
     GATE=$gate PATH=$gate/kit:$PATH TMPDIR=$gate/tmp $hearing "$gate/.ci/run" </dev/null >"$gate/ear" 2>&1 &

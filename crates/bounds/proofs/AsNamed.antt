@@ -21,7 +21,7 @@ as_named = (
     says_and_does = refl;
     zero = record { wrong_answer = refl; right_answer = refl };
     ahead = record { wrong_answer = refl; right_answer = refl };
-    aheadNoLonger = refl;
+    ahead_no_longer = refl;
     idle = refl;
     counts = refl;
     counts_only = refl;
@@ -30,11 +30,11 @@ as_named = (
     pays_first = refl;
     rolls_at_second = refl;
     takes_later = refl;
-    paysNoLater = refl;
+    pays_no_later = refl;
     pays = refl;
     keeps = refl;
     late = record { wrong_answer = refl; right_answer = refl };
-    lateNever = refl;
+    late_never = refl;
     drops = record { wrong_answer = refl; right_answer = refl };
     drops_no_more = refl;
     ahead_always = record { wrong_answer = refl; right_answer = refl };
@@ -50,7 +50,7 @@ as_named = (
     forgets = record { wrong_answer = refl; right_answer = refl };
     soon = record { wrong_answer = refl; right_answer = refl };
     ahead_whole = record { wrong_answer = refl; right_answer = refl };
-    aheadWholeOnly = refl;
+    ahead_whole_only = refl;
     dawdles = refl;
     lingers = refl;
   },
@@ -60,7 +60,7 @@ as_named = (
     says_and_does = refl;
     zero = record { wrong_answer = refl; right_answer = refl };
     ahead = record { wrong_answer = refl; right_answer = refl };
-    aheadNoLonger = refl;
+    ahead_no_longer = refl;
     idle = refl;
     counts = refl;
     counts_only = refl;
@@ -69,11 +69,11 @@ as_named = (
     pays_first = refl;
     rolls_at_second = refl;
     takes_later = refl;
-    paysNoLater = refl;
+    pays_no_later = refl;
     pays = refl;
     keeps = refl;
     late = record { wrong_answer = refl; right_answer = refl };
-    lateNever = refl;
+    late_never = refl;
     drops = record { wrong_answer = refl; right_answer = refl };
     drops_no_more = refl;
     ahead_always = record { wrong_answer = refl; right_answer = refl };
@@ -89,7 +89,7 @@ as_named = (
     forgets = record { wrong_answer = refl; right_answer = refl };
     soon = record { wrong_answer = refl; right_answer = refl };
     ahead_whole = record { wrong_answer = refl; right_answer = refl };
-    aheadWholeOnly = refl;
+    ahead_whole_only = refl;
     dawdles = refl;
     lingers = refl;
   },

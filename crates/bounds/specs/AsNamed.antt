@@ -60,7 +60,7 @@ pub record AsNamed (kind : ℕ) : Type 0 where
   pub says_and_does : Same (λ a. a.clock) wrong.says_refused (fresh_clock kind) (Call Tick)
   pub zero : Differ telling wrong.reads_zero (from kind (field.seconds ≔ 5 ∷ [])) (Call Reading) 0 5000000
   pub ahead : Differ telling wrong.ahead_while_bad (fresh_clock kind) (Call Reading) 1 0
-  pub aheadNoLonger :
+  pub ahead_no_longer :
       Same (λ a. a) wrong.ahead_while_bad (from kind (field.status ≔ status_ok ∷ [])) (Call Reading)
   pub idle : (wrong.idles (fresh_clock kind) (Call Tick)).clock ≡ fresh_clock kind
   pub counts : Same (λ a. a.count) wrong.counts_only (fresh_clock kind) (CatchUp 3 false)
@@ -70,7 +70,7 @@ pub record AsNamed (kind : ℕ) : Type 0 where
   pub pays_first : Same (λ a. a) wrong.pretends (at_first_share kind) (Call Tick)
   pub rolls_at_second : (step_of (at_second_share kind) (Call Tick)).clock.seconds ≡ 1
   pub takes_later : Same (λ a. a.clock.offset) wrong.pretends (at_second_share kind) (Call Tick)
-  pub paysNoLater :
+  pub pays_no_later :
       (wrong.pretends (at_second_share kind) (Call Tick)).clock.adjustment ≡ (fresh_clock kind).adjustment
   pub pays : Same (λ a. a.clock.adjustment) wrong.keeps_offset (at_second_share kind) (Call Tick)
   pub keeps : (wrong.keeps_offset (at_second_share kind) (Call Tick)).clock.offset ≡ (at_second_share kind).offset
@@ -78,7 +78,7 @@ pub record AsNamed (kind : ℕ) : Type 0 where
       Differ (λ a. a.clock.seconds) other.sets_late
       (from kind (field.left ≔ℤ pos 1 ∷ []))
       (Call (set 5 0)) 6 5
-  pub lateNever :
+  pub late_never :
       Same (λ a. a) other.sets_late (clock_after kind (Call (asks (pos 1)) ∷ [])) (Call (set 5 0))
   pub drops :
       Differ (λ a. a.clock.leftover.0) other.drops_leftover (with_remainder kind) (Call Tick) (pos 0) (pos 1)
@@ -105,7 +105,7 @@ pub record AsNamed (kind : ℕ) : Type 0 where
   pub soon : Differ (λ a. a.refusal) other.accepts_soon (from kind (field.updated ≔ 1 ∷ []))
       (Call (asks (pos 1))) 0 17
   pub ahead_whole : Differ telling other.ahead_while_whole (fresh_clock kind) (Call Reading) 1 0
-  pub aheadWholeOnly :
+  pub ahead_whole_only :
       Same (λ a. a) other.ahead_while_whole (clock_after kind (Call Tick ∷ [])) (Call Reading)
   pub dawdles : (other.dawdles (fresh_clock kind) Tick).clock.micros.0 ≡ 1
   pub lingers : (other.lingers (at_the_end kind) Tick).clock.micros.0 ≡ 999999

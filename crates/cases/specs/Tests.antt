@@ -88,7 +88,7 @@ pub record PlacesTold : Type 0 where
   pub stages : all_stages (holds ∷ holds ∷ []) (given []) ≡ true
   pub first_stage : all_stages (fails ∷ holds ∷ []) (given []) ≡ false
   pub last_stage : all_stages (holds ∷ fails ∷ []) (given []) ≡ false
-  pub notDone :
+  pub not_done :
       all_stages (no_rollover ∷ []) (given (field.seconds ≔ last_second ∷ field.micros ≔ last_micro ∷ [])) ≡ false
   pub rows : all_cases (row 1 [] (holds ∷ []) ∷ row 2 [] (holds ∷ []) ∷ []) ≡ true
   pub first_row : all_cases (row 1 [] (fails ∷ []) ∷ row 2 [] (holds ∷ []) ∷ []) ≡ false

@@ -1,5 +1,5 @@
 -- Code 4 at place 0 asks for the summary, and nothing else does.
-use mathlib.Core.Path.{◌≡◌, refl, ap}
+use mathlib.Core.Path.{◌≡◌, refl, sym, ap}
 use mathlib.Core.Bool.{Bool, true, false, cond}
 use mathlib.Core.List.{List, [], ◌∷◌}
 use Prim.Native.Nat.{ℕ, ◌<◌}
@@ -7,6 +7,9 @@ use native.Mathlib.Omega.{arith}
 use lib.Dec.{eqb}
 use lib.ListN.{length, get_or, take, drop}
 use borrow.Author.Tests.{eqb-true, eqb-false, ne_eqb}
+use denote.Bor.{Bor}
+use Rattle.std.specs.Prelude.{Option, None, Some, slice_get}
+use Rattle.std.specs.Option.{option_copied, option_eq}
 use Rattle.number.specs.Form.{Bytes, bytes_of, bytes_from}
 use Rattle.number.specs.Reading.{Found as Number, number, number_at}
 use Rattle.number.specs.Reading.{refused as no_number}
@@ -94,3 +97,13 @@ module _ (s : List ℕ) where
     pub asks_byte : (b : Bool) → eqb (get_or s 0 0) 4 ≡ b → asks_summary s ≡ b
     asks_byte true t = let e = eqb-true _ _ t in number_asks (first_last s 0 (get_or s 0 0) some refl (omega arith)) e
     asks_byte false t = by_number (number_at s 0) refl (λ next i. eqb-false _ _ t (first_is_4 next i))
+
+-- and so it does where it is looked up: there is none, or it is the byte 4
+pub asks_first : (s : List ℕ) → Bytes s → (x : Option (Bor ℕ)) (b : Bor ℕ) → b.now ≡ 4 → option_copied x ≡ slice_get s 0
+    → option_eq (λ y z. eqb y.now z.now) x (Some b) ≡ asks_summary s
+asks_first [] bytes None b f e = sym (asks_none [] refl)
+asks_first [] bytes (Some y) b f e = absurd (let w : ◌≡◌ {A = ℕ} 0 1 = cc in omega arith)
+asks_first (a ∷ s) bytes None b f e = absurd (let w : ◌≡◌ {A = ℕ} 0 1 = cc in omega arith)
+asks_first (a ∷ s) bytes (Some y) b f e =
+    let i : y.now ≡ a = cc in
+    rw (f, i) (sym (asks_byte (a ∷ s) bytes (omega arith) (eqb a 4) refl))

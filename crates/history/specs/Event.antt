@@ -1,8 +1,9 @@
 -- The events of a history, at a place of any bytes. Document 01, "Replay program": "a history in the same
 -- number form .. `0 n` ..; `1 s u` setting; `2 mode` and the selected fields in order of mode bit, offset and
 -- frequency mapped ..; `3` print".
-use Rattle.std.specs.Prelude.{Bool, true, false, cond, List, ℕ, suc, ◌%◌, eqb, ℤ}
-use Rattle.state.specs.Refusal.{refused_field}
+use Rattle.std.specs.Prelude.{Bool, true, false, cond, List, ℕ, suc, ◌%◌, eqb, ℤ, Result, Ok, Err}
+use Rattle.state.specs.Refusal.{refused_field, refusal_number}
+use Rattle.state.specs.declared.refusal.Refusal.{Refusal}
 use Rattle.state.specs.Units.{asked_micros}
 use Rattle.event.specs.declared.event.Call.TheVariants.{Setting, Request, Reading}
 use Rattle.number.specs.Mapping.{unmapped}
@@ -14,7 +15,6 @@ use Rattle.request.specs.declared.units.AskedFrequency.{AskedFrequency}
 use Rattle.history.specs.declared.Event.{Event}
 use Rattle.history.specs.declared.Event.TheVariants.{Ticks, Summary, Call}
 use Rattle.history.specs.declared.Entry.{Entry}
-use Rattle.history.specs.declared.Entry.TheVariants as E
 
 -- What stands at a place: an event, with the place after it; or none, with its number in document 01's table
 -- of refusals.
@@ -22,10 +22,10 @@ pub data Found : Type 0 where
   found : (event : Event) (next : ℕ) → Found
   refused : (refusal : ℕ) → Found
 
--- what each case of the reader's answer says
-abbrev pub told : Entry → Found
-told (E.Whole event next) = found event next
-told (E.Refused refusal) = refused refusal
+-- what the reader's answer says
+abbrev pub told : Result Entry Refusal → Found
+told (Ok e) = found e.event e.next
+told (Err refusal) = refused (refusal_number refusal)
 
 abbrev pub offset_micros : ℤ → AskedOffset
 offset_micros z = record { 0 = z }

@@ -2,11 +2,11 @@
 -- had from those of its summands, so that a linear statement on integers becomes one on naturals, with no
 -- case split for `omega`.
 use mathlib.Core.Path.{◌≡◌, refl, sym, ap, ◌∙◌}
-use Prim.Native.Nat.{ℕ, ◌+◌, ◌*◌, ◌/◌, ◌%◌}
+use Prim.Native.Nat.{ℕ, ◌+◌, ◌*◌, ◌/◌}
 use native.Mathlib.Omega.{arith}
 use native.Mathlib.Nat.{mul-add, add-mul}
 use lib.IntN.{ℤ, pos, neg_ℤ, ◌+ℤ◌, ◌-ℤ◌, ◌*ℤ◌}
-use lib.Signed.{quot_z, rem_z}
+use lib.Signed.{quot_z}
 use Rattle.integers.proofs.Parts.{pos_part, neg_part, parts}
 
 pub record Diff (z : ℤ) (p n : ℕ) : Type 0 where
@@ -35,6 +35,3 @@ times_r {a} {p} {n} k x = record { eq = simp parts (sym (add-mul (pos_part a) n 
 
 pub quot : (a : ℤ) (k : ℕ) → Diff (quot_z a (pos k)) (pos_part a / k) (neg_part a / k)
 quot a k = record { eq = simp parts }
-
-pub rem : (a : ℤ) (k : ℕ) → Diff (rem_z a (pos k)) (pos_part a % k) (neg_part a % k)
-rem a k = record { eq = simp parts }

@@ -1,5 +1,5 @@
 -- The reader's answers: what each of its tests says of the clocks that could have written the bytes.
-use Rattle.std.proofs.Common.{◌≡◌, ℕ, ◌+◌, ◌*◌, ◌/◌, ◌%◌, ◌<◌, ◌≤◌, Bool, true, false, cond, ◌&&◌, eqb, ltb, ◌⊎◌, List, length, sym, refl, ap, ◌∙◌, inl, inr, ⊎_elim, true≢false, arith, ltb-false, ltb-true, eq-eqb, eqb-true, le-leb}
+use Rattle.std.proofs.Common.{◌≡◌, ℕ, ◌+◌, ◌*◌, ◌/◌, ◌%◌, ◌<◌, ◌≤◌, Bool, true, false, cond, ◌&&◌, eqb, ltb, ◌⊎◌, List, length, sym, refl, ap, ◌∙◌, inl, inr, ⊎_elim, true≢false, arith, ltb-false, ltb-true, eq-eqb, eqb-true, le-leb, Option, Some, None}
 use borrow.Author.Tests.{eqb-false}
 use Rattle.integers.proofs.Ranges.{and_true}
 use Rattle.state.specs.declared.state.Clock.{Clock}
@@ -8,19 +8,16 @@ use Rattle.state.specs.State.{in_range, fresh_clock, last_second, status_oop, st
 use Rattle.state.proofs.Ok.{ok}
 use Rattle.state.specs.Units.{seconds_per_day, last_second_of_day}
 use Rattle.calendar.specs.declared.Date.{Date}
-use Rattle.calendar.specs.declared.Found.{Found}
-use Rattle.calendar.specs.declared.Found.TheVariants.{Day, NoDay}
 use Rattle.calendar.specs.Calendar.{date_of, days}
 use Rattle.calendar.specs.Search.{FoundAs, found, none}
 use Rattle.calendar.proofs.Dates.{one_day, same_parts}
-use Rattle.label.specs.declared.fields.DayTime.TheVariants.{At, NoTime}
 use Rattle.label.specs.Label.{label_of, is_sixty, label_size}
 use Rattle.label.specs.Reading.{label, no_label, WrittenFor, ReadsAs, accepted, refused}
 use Rattle.label.specs.Inner.{pair_at, is_marked, date_at, AlikeDate, ShownBy, shown, unshown}
 use Rattle.label.proofs.Digits.{alike_small, small_alike}
 use Rattle.label.proofs.Parts.{Ranges, ranges}
 use Rattle.label.proofs.Bytes.{Says, says, written}
-use Rattle.label.proofs.DayTime.{shown_once}
+use Rattle.label.proofs.DayTime.{time_at, shown_once}
 
 -- ---- clocks and their labels
 
@@ -83,7 +80,7 @@ module _ {d e : Date} (w : AlikeDate d e) where
       let r : Ranges e = rw p (ranges n h) in
       same_parts w.year (small_alike w.month (omega (arith, r.month))) (small_alike w.day (omega (arith, r.day))))
 
-  pub found_alike : {f : Found} → FoundAs d f → FoundAs e f
+  pub found_alike : {f : Option ℕ} → FoundAs d f → FoundAs e f
   found_alike (found h p) = found h (sym (same_date h (inl p)) ∙ p)
   found_alike (none g) = none (λ n h p. g n h (same_date h (inr p) ∙ p))
 
@@ -96,11 +93,11 @@ last_day = last_second / seconds_per_day
 abbrev pub last_day_end : ℕ
 last_day_end = last_second % seconds_per_day
 
-pub day_known : {d : Date} {n : ℕ} → FoundAs d (Day n) → n < days
+pub day_known : {d : Date} {n : ℕ} → FoundAs d (Some n) → n < days
 day_known (found known e) = known
 
 -- a day and a second of it that are not past the last second, where no later end is tested
-pub in_time_lem : {d : Date} {n h m s t end : ℕ} {sixty : Bool} → FoundAs d (Day n) → ShownBy h m s (At t sixty)
+pub in_time_lem : {d : Date} {n h m s t end : ℕ} {sixty : Bool} → FoundAs d (Some n) → ShownBy h m s (time_at t sixty)
     → eqb n last_day && ltb end t ≡ false → end ≤ last_day_end → seconds_per_day * n + t ≤ last_second
 in_time_lem {n = n} {t = t} {end = end} (found known e) (shown w) f l = by_day (eqb n last_day) refl f
   where
@@ -115,14 +112,14 @@ module _ (text : List ℕ) where
   pub not_marked : is_marked text ≡ false → ReadsAs text no_label
   not_marked f = refuses (λ s sixty w. true≢false (sym w.marked ∙ f))
 
-  pub not_dated : FoundAs (date_at text) NoDay → ReadsAs text no_label
+  pub not_dated : FoundAs (date_at text) None → ReadsAs text no_label
   not_dated (none f) = refuses (λ s sixty w. f (s / seconds_per_day) (omega (arith, w.bound)) w.date)
 
-  pub not_timed : ShownBy (pair_at text 11) (pair_at text 14) (pair_at text 17) NoTime → ReadsAs text no_label
+  pub not_timed : ShownBy (pair_at text 11) (pair_at text 14) (pair_at text 17) None → ReadsAs text no_label
   not_timed (unshown f) = refuses (λ s sixty w. f (s % seconds_per_day) sixty w.time)
 
   module _ (n t : ℕ) (sixty : Bool) where
-    pub too_late : {end : ℕ} → FoundAs (date_at text) (Day n) → ShownBy (pair_at text 11) (pair_at text 14) (pair_at text 17) (At t sixty)
+    pub too_late : {end : ℕ} → FoundAs (date_at text) (Some n) → ShownBy (pair_at text 11) (pair_at text 14) (pair_at text 17) (time_at t sixty)
         → eqb n last_day && ltb end t ≡ true → last_day_end ≤ end → ReadsAs text no_label
     too_late {end} (found h e) (shown w) l late =
         let p = and_true (eqb n last_day) (ltb end t) l in
@@ -130,8 +127,8 @@ module _ (text : List ℕ) where
         let day : n ≡ s / seconds_per_day = one_day n (s / seconds_per_day) (sym e ∙ w'.date) in
         omega (arith, day, eqb-true n last_day p.0, ltb-true end t p.1, (shown_once w w'.time).0, w'.bound))
 
-    pub is_label : length text ≡ label_size → is_marked text ≡ true → FoundAs (date_at text) (Day n)
-        → ShownBy (pair_at text 11) (pair_at text 14) (pair_at text 17) (At t sixty)
+    pub is_label : length text ≡ label_size → is_marked text ≡ true → FoundAs (date_at text) (Some n)
+        → ShownBy (pair_at text 11) (pair_at text 14) (pair_at text 17) (time_at t sixty)
         → seconds_per_day * n + t ≤ last_second → ReadsAs text (label (seconds_per_day * n + t) sixty)
     is_label long marked (found h e) (shown w) l =
         accepts (seconds_per_day * n + t) sixty l (λ x. omega (arith, w.last x)) (written text long marked n t sixty h e w)

@@ -1,15 +1,18 @@
 -- The second of a day that an hour, a minute and a second show: what the tests of `time_of` say, and that no
 -- two are shown alike.
-use Rattle.std.proofs.Common.{◌≡◌, ℕ, ◌+◌, ◌-◌, ◌*◌, ◌/◌, ◌%◌, ◌<◌, ◌≤◌, Bool, true, false, cond, ◌&&◌, ◌||◌, eqb, leb, sym, refl, ◌∙◌, true≢false, arith, eq-eqb, eqb-true, leb-false}
+use Rattle.std.proofs.Common.{◌≡◌, ℕ, ◌+◌, ◌-◌, ◌*◌, ◌/◌, ◌%◌, ◌<◌, ◌≤◌, Bool, true, false, cond, ◌&&◌, ◌||◌, eqb, leb, sym, refl, ◌∙◌, true≢false, arith, eq-eqb, eqb-true, leb-false, Option, Some, None}
 use native.Mathlib.Nat.{div-div-eq-div-mul}
 use borrow.Author.Tests.{lt-leb}
 use Rattle.integers.proofs.Ranges.{and_true}
 use Rattle.state.specs.Units.{last_second_of_day}
 use Rattle.label.specs.declared.fields.DayTime.{DayTime}
-use Rattle.label.specs.declared.fields.DayTime.TheVariants.{At, NoTime}
 use Rattle.label.specs.Inner.{Alike, Shows, ShownBy, shown, unshown}
 use Rattle.label.specs.Label.{seconds_per_minute, minutes_per_hour, hours_per_day, seconds_per_hour, inserted_second}
 use Rattle.label.proofs.Digits.{alike_small, small_alike}
+
+-- a second of a day, found
+abbrev pub time_at : ℕ → Bool → Option DayTime
+time_at t sixty = Some (record { second = t; sixty = sixty })
 
 or_false : (a b : Bool) → a || b ≡ false → (a ≡ false) × (b ≡ false)
 or_false true b e = absurd (true≢false e)
@@ -51,7 +54,7 @@ module _ {t h m s : ℕ} {sixty : Bool} (w : Shows t sixty h m s) where
   shows_of p q r =
       record { within = w.within; last = w.last; hour = sym p ∙ w.hour; minute = sym q ∙ w.minute; second = sym r ∙ w.second }
 
-pub shown_alike : {h h' m m' s s' : ℕ} {r : DayTime} → Alike h h' → Alike m m' → Alike s s' → ShownBy h m s r → ShownBy h' m' s' r
+pub shown_alike : {h h' m m' s s' : ℕ} {r : Option DayTime} → Alike h h' → Alike m m' → Alike s s' → ShownBy h m s r → ShownBy h' m' s' r
 shown_alike p q r (shown w) =
     shown (shows_of w (alike_small p (hour_small w)) (alike_small q (minute_small w)) (alike_small r (seconds_small w)))
 shown_alike p q r (unshown f) = unshown (λ t sixty w.
@@ -68,13 +71,13 @@ pub minute_found : (h m : ℕ) → leb hours_per_day h || leb minutes_per_hour m
 minute_found h m e = let p = or_false (leb hours_per_day h) (leb minutes_per_hour m) e in (leb-false hours_per_day h p.0, leb-false minutes_per_hour m p.1)
 
 module _ (h m s : ℕ) where
-  pub no_minute : leb hours_per_day h || leb minutes_per_hour m ≡ true → ShownBy h m s NoTime
+  pub no_minute : leb hours_per_day h || leb minutes_per_hour m ≡ true → ShownBy h m s None
   no_minute e = unshown (λ t sixty w.
       true≢false
       (sym e ∙ rw (lt-leb hours_per_day h (omega (arith, w.hour, w.within)), lt-leb minutes_per_hour m (omega (arith, w.minute)))))
 
   module _ (minute : (h < hours_per_day) × (m < minutes_per_hour)) where
-    pub usual : s < seconds_per_minute → ShownBy h m s (At (seconds_per_minute * (minutes_per_hour * h + m) + s) false)
+    pub usual : s < seconds_per_minute → ShownBy h m s (time_at (seconds_per_minute * (minutes_per_hour * h + m) + s) false)
     usual l =
         shown {t = seconds_per_minute * (minutes_per_hour * h + m) + s} {sixty = false} (record {
           within = omega arith;
@@ -84,7 +87,7 @@ module _ (h m s : ℕ) where
           second = omega arith;
         })
 
-    pub day_end : eqb s inserted_second && eqb (minutes_per_hour * h + m) last_minute ≡ true → ShownBy h m s (At last_second_of_day true)
+    pub day_end : eqb s inserted_second && eqb (minutes_per_hour * h + m) last_minute ≡ true → ShownBy h m s (time_at last_second_of_day true)
     day_end e =
         let p = and_true (eqb s inserted_second) (eqb (minutes_per_hour * h + m) last_minute) e in
         let last = eqb-true (minutes_per_hour * h + m) last_minute p.1 in
@@ -96,7 +99,7 @@ module _ (h m s : ℕ) where
           second = eqb-true s inserted_second p.0;
         })
 
-    pub no_second : seconds_per_minute ≤ s → eqb s inserted_second && eqb (minutes_per_hour * h + m) last_minute ≡ false → ShownBy h m s NoTime
+    pub no_second : seconds_per_minute ≤ s → eqb s inserted_second && eqb (minutes_per_hour * h + m) last_minute ≡ false → ShownBy h m s None
     no_second l e = unshown by_mark
       where
         by_mark : (t : ℕ) (sixty : Bool) → Shows t sixty h m s → ⊥

@@ -1,5 +1,4 @@
 pub mod Digits
-pub mod Words
 pub mod Placed
 pub mod Room
 pub mod Parts

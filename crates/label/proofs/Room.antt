@@ -60,8 +60,8 @@ module _ (c : Clock) (out : List ℕ) where
     unfolding write_refusal written_to
     short l = let e = lt-ltb (length out) label_size l in promised {r = 14} {after = out} (simp (sound, e)) (simp (sound, e))
 
-    pub done : label_size ≤ length out → {after : List ℕ} → after ≡ clock_label c ++ drop label_size out → Promised 0 after
+    pub done : label_size ≤ length out → {text : List ℕ} → text ≡ clock_label c → Promised 0 (text ++ drop label_size out)
     unfolding write_refusal written_to
-    done l {after} q =
+    done l {text} q =
         let e = le-ltb (length out) label_size l in
-        promised {r = 0} {after = after} (simp (sound, e)) (simp (sound, e) q)
+        promised {r = 0} {after = text ++ drop label_size out} (simp (sound, e)) (simp (sound, e, q))

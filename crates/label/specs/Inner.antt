@@ -1,19 +1,17 @@
 -- What is asked of the private routines of the writer and the reader. No public promise rests on these.
-use Rattle.std.specs.Prelude.{◌≡◌, ℕ, ◌+◌, ◌-◌, ◌*◌, ◌/◌, ◌%◌, ◌<◌, ◌≤◌, Bool, true, cond, ◌&&◌, List, [], ◌∷◌, ◌++◌, ◌==◌, nat_le, slice_index}
+use Rattle.std.specs.Prelude.{◌≡◌, ℕ, ◌+◌, ◌-◌, ◌*◌, ◌/◌, ◌%◌, ◌<◌, ◌≤◌, Bool, true, cond, ◌&&◌, List, ◌∷◌, ◌++◌, ◌==◌, nat_le, slice_index, Option, Some, None}
 use Rattle.state.specs.Units.{seconds_per_day, last_second_of_day}
 use Rattle.calendar.specs.declared.Date.{Date}
-use Rattle.label.specs.Label.{digit_zero, hyphen, letter_t, colon, letter_z, two, four, seconds_per_minute, minutes_per_hour, seconds_per_hour, inserted_second}
+use Rattle.label.specs.Label.{digit_zero, hyphen, letter_t, colon, letter_z, two, seconds_per_minute, minutes_per_hour, seconds_per_hour, inserted_second}
 use Rattle.label.specs.declared.fields.DayTime.{DayTime}
-use Rattle.label.specs.declared.fields.DayTime.TheVariants.{At, NoTime}
+use Rattle.label.specs.declared.UtcSecond.{UtcSecond}
+use Rattle.label.specs.Reading.{label, no_label}
 
 -- ---- the writer
 
--- a label's date with the T, and its time of day with the Z
-abbrev pub date_text : Date → List ℕ
-date_text d = four d.year ++ (hyphen ∷ two d.month) ++ (hyphen ∷ two d.day) ++ (letter_t ∷ [])
-
+-- a time of day, in a label
 abbrev pub time_text : ℕ → ℕ → ℕ → List ℕ
-time_text hour minute second = two hour ++ (colon ∷ two minute) ++ (colon ∷ two second) ++ (letter_z ∷ [])
+time_text hour minute second = two hour ++ (colon ∷ two minute) ++ (colon ∷ two second)
 
 -- ---- the reader
 
@@ -64,6 +62,11 @@ pub record Shows (t : ℕ) (sixty : Bool) (h m s : ℕ) : Type 0 where
   pub second : s ≡ cond sixty inserted_second (t % seconds_per_minute)
 
 -- the second of the day that shows this hour, minute and second, or that none does
-pub data ShownBy (h m s : ℕ) : DayTime → Type 0 where
-  shown : {t : ℕ} {sixty : Bool} → Shows t sixty h m s → ShownBy h m s (At t sixty)
-  unshown : ((t : ℕ) (sixty : Bool) → Shows t sixty h m s → ⊥) → ShownBy h m s NoTime
+pub data ShownBy (h m s : ℕ) : Option DayTime → Type 0 where
+  shown : {t : ℕ} {sixty : Bool} → Shows t sixty h m s → ShownBy h m s (Some (record { second = t; sixty = sixty }))
+  unshown : ((t : ℕ) (sixty : Bool) → Shows t sixty h m s → ⊥) → ShownBy h m s None
+
+-- what the reader answers of the second that it finds
+abbrev pub reading_of : Option (ℕ × Bool) → UtcSecond
+reading_of (Some p) = label p.0 p.1
+reading_of None = no_label

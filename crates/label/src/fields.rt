@@ -1,8 +1,8 @@
 // The fields of twenty bytes that may be a label: each is judged on its own, and none is trusted.
-ghost use Rattle.std.specs.Prelude.{◌≡◌, length};
+ghost use Rattle.std.specs.Prelude.{◌≡◌};
 ghost use Rattle.label.specs.Inner.{Alike, pair_of, pair_at, is_marked, date_at, AlikeDate, ShownBy};
-ghost use Rattle.label.specs.Label.{label_size};
 
+use crate::SIZE;
 use crate::units::{HOURS_PER_DAY, LAST_SECOND_OF_DAY, MINUTES_PER_HOUR, SECONDS_PER_MINUTE};
 use calendar::Date;
 
@@ -40,8 +40,7 @@ fn bounded_pair(tens: u8, units: u8) -> u32
 }
 
 // Whether the bytes between the digits are a label's.
-pub(crate) fn is_marked(text: &[u8]) -> bool
-    requires { length text.now ≡ label_size }
+pub(crate) fn is_marked(text: &[u8; SIZE]) -> bool
     ensures { result ≡ is_marked text.now }
 {
     (text[4] == b'-')
@@ -53,8 +52,7 @@ pub(crate) fn is_marked(text: &[u8]) -> bool
 }
 
 // The date that the digits say; no date where a byte is no digit.
-pub(crate) fn date_at(text: &[u8]) -> Date
-    requires { length text.now ≡ label_size }
+pub(crate) fn date_at(text: &[u8; SIZE]) -> Date
     ensures { AlikeDate result (date_at text.now) }
 {
     Date {
@@ -64,40 +62,39 @@ pub(crate) fn date_at(text: &[u8]) -> Date
     }
 }
 
+// A second of a day, and whether it was shown as the 60 that repeats the last one.
 #[derive(Clone, Copy)]
-pub(crate) enum DayTime {
-    // A second of a day, and whether it was shown as the 60 that repeats the last one.
-    At { second: u32, sixty: bool },
-    NoTime,
+pub(crate) struct DayTime {
+    pub(crate) second: u32,
+    pub(crate) sixty: bool,
 }
 
 // The second of a day that an hour, a minute and a second show.
-fn time_of(hour: u32, minute: u32, second: u32) -> DayTime
+fn time_of(hour: u32, minute: u32, second: u32) -> Option<DayTime>
     ensures { ShownBy hour minute second result }
 {
     if (HOURS_PER_DAY <= hour) | (MINUTES_PER_HOUR <= minute) {
-        return DayTime::NoTime;
+        return None;
     }
     let minutes = MINUTES_PER_HOUR * hour + minute;
     if second < SECONDS_PER_MINUTE {
-        return DayTime::At {
+        return Some(DayTime {
             second: SECONDS_PER_MINUTE * minutes + second,
             sixty: false,
-        };
+        });
     }
     if (second == INSERTED_SECOND) & (minutes == LAST_MINUTE) {
-        DayTime::At {
+        Some(DayTime {
             second: LAST_SECOND_OF_DAY,
             sixty: true,
-        }
+        })
     } else {
-        DayTime::NoTime
+        None
     }
 }
 
 // The second of a day that the digits say.
-pub(crate) fn time_at(text: &[u8]) -> DayTime
-    requires { length text.now ≡ label_size }
+pub(crate) fn time_at(text: &[u8; SIZE]) -> Option<DayTime>
     ensures { ShownBy (pair_at text.now 11) (pair_at text.now 14) (pair_at text.now 17) result }
 {
     time_of(

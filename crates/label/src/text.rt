@@ -1,11 +1,11 @@
 // The bytes of a second's label.
-ghost use Rattle.std.specs.Prelude.{◌≡◌, ◌/◌, ◌%◌, ◌<◌, ◌≤◌, Bool, ◌∷◌, ◌++◌, length, drop, if◌then◌else◌, nat_eq, slice_set};
-ghost use Rattle.calendar.specs.Calendar.{date_of};
+ghost use Rattle.std.specs.Prelude.{◌≡◌, ◌/◌, ◌%◌, ◌<◌, Bool, ◌∷◌, ◌++◌, if◌then◌else◌, nat_eq, slice_set};
 ghost use Rattle.state.specs.Units.{seconds_per_day, last_second_of_day};
-ghost use Rattle.label.specs.Label.{digit, two, label_size, seconds_per_minute, minutes_per_hour, seconds_per_hour, hours_per_day, label_of};
-ghost use Rattle.label.specs.Inner.{date_text, time_text};
+ghost use Rattle.label.specs.Label.{digit, two, seconds_per_minute, minutes_per_hour, seconds_per_hour, hours_per_day, label_of};
+ghost use Rattle.label.specs.Inner.{time_text};
 
-use crate::units::{MINUTES_PER_HOUR, SECONDS_PER_HOUR, SECONDS_PER_MINUTE};
+use crate::SIZE;
+use crate::units::{LAST_SECOND_OF_DAY, MINUTES_PER_HOUR, SECONDS_PER_HOUR, SECONDS_PER_MINUTE};
 use state::SECONDS_PER_DAY;
 
 // The digit 0 and the marks between pairs of digits, in ASCII.
@@ -15,36 +15,21 @@ const HYPHEN: u64 = 0x2D;
 
 const COLON: u64 = 0x3A;
 
-// A minute, an hour and a day in seconds, and an hour in minutes.
+// A minute and an hour in seconds, and an hour in minutes.
 const MINUTE: u64 = SECONDS_PER_MINUTE as u64;
 
 const HOUR: u64 = SECONDS_PER_HOUR as u64;
 
-const DAY: u64 = SECONDS_PER_DAY as u64;
-
 const HOUR_MINUTES: u64 = MINUTES_PER_HOUR as u64;
 
-// A tenth of a number below 100, without a division.
-fn tenth(n: u64) -> u64
-    requires { n < 100 }
-    ensures { result ≡ n / 10 }
-{
-    n * 103 / 1024
-}
-
 // The two digits of a number below 100, in ASCII.
-fn tens(n: u64) -> u8
+fn two_digits(n: u64) -> [u8; 2]
     requires { n < 100 }
-    ensures { result ≡ digit (n / 10) }
+    ensures { result ≡ two n }
 {
-    (ZERO + tenth(n)) as u8
-}
-
-fn units(n: u64) -> u8
-    requires { n < 100 }
-    ensures { result ≡ digit n }
-{
-    (ZERO + (n - 10 * tenth(n))) as u8
+    // A tenth, without a division.
+    let tenth = n * 103 / 1024;
+    [(ZERO + tenth) as u8, (ZERO + (n - 10 * tenth)) as u8]
 }
 
 // Eight bytes in one word: a zero in each byte of a digit, a 1 in the bytes of the marks.
@@ -66,82 +51,50 @@ fn marked_pairs(a: u64, b: u64, c: u64, mark: u64) -> [u8; 8]
         + 0x1_0000_0000_0000 * (p / 0x1_0000_0000_0000 % 0x10);
     // A number n with the tenth t has the digits t and n - 10 t, the first in the lower byte: 256 n - 2559 t.
     let w = 0x100 * x + (ZEROS + MARKS * mark) - 2559 * t;
-    [
-        (w % 0x100) as u8,
-        (w / 0x100 % 0x100) as u8,
-        (w / 0x1_0000 % 0x100) as u8,
-        (w / 0x100_0000 % 0x100) as u8,
-        (w / 0x1_0000_0000 % 0x100) as u8,
-        (w / 0x100_0000_0000 % 0x100) as u8,
-        (w / 0x1_0000_0000_0000 % 0x100) as u8,
-        (w / 0x100_0000_0000_0000 % 0x100) as u8,
-    ]
+    w.to_le_bytes()
 }
 
-// The date of a second, and the T after it.
-fn date_text(seconds: u32) -> [u8; 11]
-    ensures { result ≡ date_text (date_of (seconds / seconds_per_day)) }
-{
-    let date = calendar::date_of_second(seconds);
-    let year = date.year as u64;
-    // A hundredth of a year to 2106, without a division.
-    let century = year * 5243 / 524288;
-    let d = marked_pairs(
-        year - 100 * century,
-        date.month as u64,
-        date.day as u64,
-        HYPHEN,
-    );
-    [
-        tens(century),
-        units(century),
-        d[0],
-        d[1],
-        d[2],
-        d[3],
-        d[4],
-        d[5],
-        d[6],
-        d[7],
-        b'T',
-    ]
-}
-
-// The time of day of a second, and the Z after it.
-fn time_text(seconds: u32) -> [u8; 9]
+// The time of day of a second.
+fn time_text(seconds: u32) -> [u8; 8]
     ensures { result ≡ time_text (seconds / seconds_per_hour % hours_per_day) (seconds / seconds_per_minute % minutes_per_hour) (seconds % seconds_per_minute) }
 {
     let of_day = (seconds % SECONDS_PER_DAY) as u64;
     let hour = of_day / HOUR;
     let minutes = of_day / MINUTE;
-    let t = marked_pairs(
+    marked_pairs(
         hour,
         minutes - HOUR_MINUTES * hour,
         of_day - MINUTE * minutes,
         COLON,
-    );
-    [t[0], t[1], t[2], t[3], t[4], t[5], t[6], t[7], b'Z']
+    )
 }
 
 // Writes the label of a second since 1970.
-pub(crate) fn put_label(seconds: u32, out: &mut [u8])
-    requires { label_size ≤ length out.old }
-    ensures { out.new ≡ label_of seconds Bool.false ++ drop label_size out.old }
+pub(crate) fn put_label(seconds: u32, out: &mut [u8; SIZE])
+    ensures { out.new ≡ label_of seconds Bool.false }
 {
-    let date = date_text(seconds);
-    out[..11].copy_from_slice(&date);
-    let time = time_text(seconds);
-    out[11..20].copy_from_slice(&time);
+    let date = calendar::date_of_second(seconds);
+    let year = date.year as u64;
+    // A hundredth of a year to 2106, without a division.
+    let century = year * 5243 / 524288;
+    out[..2].copy_from_slice(&two_digits(century));
+    out[2..10].copy_from_slice(&marked_pairs(
+        year - 100 * century,
+        date.month as u64,
+        date.day as u64,
+        HYPHEN,
+    ));
+    out[10] = b'T';
+    out[11..19].copy_from_slice(&time_text(seconds));
+    out[19] = b'Z';
 }
 
 // Writes 60 over the seconds of a label whose second is a day's last.
-pub(crate) fn put_sixty(seconds: u32, out: &mut [u8])
-    requires { label_size ≤ length out.old }
+pub(crate) fn put_sixty(seconds: u32, out: &mut [u8; SIZE])
     ensures { out.new ≡ (if nat_eq (seconds % seconds_per_day) last_second_of_day then slice_set (slice_set out.old 17 (digit 6)) 18 (digit 0) else out.old) }
 {
-    if (seconds as u64 + 1) % DAY != 0 {
-        return;
+    if seconds % SECONDS_PER_DAY == LAST_SECOND_OF_DAY {
+        out[17] = b'6';
+        out[18] = b'0';
     }
-    out[17] = b'6';
-    out[18] = b'0';
 }

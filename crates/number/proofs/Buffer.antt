@@ -8,7 +8,9 @@ use native.Mathlib.Omega.{arith}
 use lib.ListN.{length, take, drop}
 use lib.Seq.{sets, sets-eq, length-sets, drop_at, length-take-le, take-append_seam}
 use borrow.Author.Tests.{le-leb, lt-leb, leb-true, leb-false}
-use Rattle.number.specs.Writing.{room, answered, filled, Writes}
+use Rattle.std.specs.Prelude.{Ok, Err}
+use Rattle.state.specs.declared.refusal.Refusal.TheVariants as R
+use Rattle.number.specs.Writing.{room, told_written, answered, filled, Writes}
 use Rattle.number.proofs.Lists.{either}
 
 module _ (buf : List ℕ) (at : ℕ) (ws : List ℕ) where
@@ -20,7 +22,7 @@ module _ (buf : List ℕ) (at : ℕ) (ws : List ℕ) where
     pub filled_sets : sets buf at ws ≡ filled buf at ws
     filled_sets = sets-eq ws buf at h ∙ sym filled_room
 
-    pub answered_room : record { refusal = 0; next = at + length ws } ≡ answered buf at ws
+    pub answered_room : told_written (Ok (at + length ws)) ≡ answered buf at ws
     unfolding answered
     answered_room = simp (le-leb _ _ h)
 
@@ -34,7 +36,7 @@ module _ (buf : List ℕ) (at : ℕ) (ws : List ℕ) where
   unfolding filled
   filled_short h = simp (lt-leb _ _ h)
 
-  pub answered_short : length buf < at + length ws → record { refusal = 14; next = 0 } ≡ answered buf at ws
+  pub answered_short : length buf < at + length ws → told_written (Err R.Room) ≡ answered buf at ws
   unfolding answered
   answered_short h = simp (lt-leb _ _ h)
 
@@ -48,7 +50,7 @@ filled_length buf at ws =
 -- what a writer promises, with room and without
 module _ (buf : List ℕ) (at : ℕ) (ws : List ℕ) where
   pub writes_room : at + length ws ≤ length buf → {next : ℕ} {after : List ℕ} → next ≡ at + length ws → after ≡ sets buf at ws
-      → Writes buf after at ws (record { refusal = 0; next = next })
+      → Writes buf after at ws (Ok next)
   writes_room h {next} {after} p q =
       let same : length after ≡ length buf = ap length q ∙ length-sets buf at ws in
       let within : next ≤ length after = omega arith in
@@ -60,6 +62,6 @@ module _ (buf : List ℕ) (at : ℕ) (ws : List ℕ) where
         same = same;
       }
 
-  pub writes_short : length buf < at + length ws → Writes buf buf at ws (record { refusal = 14; next = 0 })
+  pub writes_short : length buf < at + length ws → Writes buf buf at ws (Err R.Room)
   writes_short h =
       record { answer = answered_short buf at ws h; buffer = filled_short buf at ws h; within = omega arith; part = refl; same = refl }

@@ -16,15 +16,14 @@ use Rattle.integers.proofs.Ranges.{and_true, true_and}
 use Rattle.number.specs.Form.{limit, Bytes, bytes_of_all}
 use Rattle.number.specs.Reading.{Found, number, refused, number_at}
 use Rattle.number.specs.Sequence.{then}
-use Rattle.number.specs.Inner.{refused_as}
 use Rattle.number.specs.Layout.{judged_by, field_at, suits, written, place_at, Layout, place, whole, Outcome, got, failed, read_from}
 use Rattle.number.specs.Stopping.{Stops, reads_layout, LayoutExactlyWhen, Outside, FieldExactlyWhen}
 use Rattle.number.proofs.Lists.{either}
 use Rattle.number.proofs.WrittenRead.{Holds, written_read}
 use Rattle.number.proofs.Chain.{Ahead, ahead_first, ahead_rest, ahead_end, ◌◂◌, ahead_none}
-use Rattle.number.proofs.Sequence.{Before, went, stopped}
 use Rattle.number.proofs.Extent.{refused_only}
 use Rattle.number.proofs.Sizes.{sizes_below, sizes_none}
+use Rattle.number.proofs.Sequence.{Before, went, stopped}
 
 -- ---- the numbers of a record
 
@@ -294,33 +293,23 @@ module _ {A : Type 0} (s : List ℕ) (r : ℕ) where
 pub layout_exactly_when : LayoutExactlyWhen reads_layout
 layout_exactly_when A l s at r = record { only = stops s r l at; always = stops_so s r l at }
 
--- ---- how the reading of a record goes: the laws of `Sequence` at a field, whatever the reader makes of the outcome
+-- ---- how the reading of a record goes on from a place, by what was found there: the laws of `Sequence` at a field
 
-pub record AtField {A R : Type 0} (tell : Outcome A → R) : Type 0 where
-  pub all : R
-  pub here : Bool
-  pub range : ℕ → Bool
-  pub rest : ℕ → Layout A
-  pub bytes : List ℕ
-  pub at : ℕ
-  pub is : all ≡ tell (read_from (place here range rest) bytes at)
-
-module _ {A R : Type 0} {tell : Outcome A → R} (b : AtField tell) {x : Found} (e : x ≡ place_at b.here b.range b.bytes b.at) where
+module _ {A : Type 0} (here : Bool) (range : ℕ → Bool) (rest : ℕ → Layout A) (s : List ℕ) (at : ℕ) where
   abbrev before : Before (Outcome A)
   before =
       record {
-        all = read_from (place b.here b.range b.rest) b.bytes b.at;
+        all = read_from (place here range rest) s at;
         ends = failed;
-        found = place_at b.here b.range b.bytes b.at;
-        go = λ n next. read_from (b.rest n) b.bytes next;
-        is = opened b.here b.range b.rest b.bytes b.at;
+        found = place_at here range s at;
+        go = λ n next. read_from (rest n) s next;
+        is = opened here range rest s at;
       }
 
   -- the field was read
-  pub field_went : {n next : ℕ} → x ≡ number n next → b.all ≡ tell (read_from (b.rest n) b.bytes next)
-  field_went v = b.is ∙ ap tell (went before e v)
+  pub field_went : {n next : ℕ} → number n next ≡ place_at here range s at → read_from (place here range rest) s at ≡ read_from (rest n) s next
+  field_went e = went before e refl
 
   -- it was refused
-  pub field_stopped : {r : ℕ} {answer : R} → x ≡ refused r → answer ≡ refused_as (λ (n : ℕ). tell (failed n)) x → answer ≡ b.all
-  field_stopped v p =
-      p ∙ ap (refused_as (λ (n : ℕ). tell (failed n))) v ∙ ap tell (stopped before e v (sym (ap (refused_as failed) v))) ∙ sym b.is
+  pub field_stopped : {r : ℕ} → refused r ≡ place_at here range s at → read_from (place here range rest) s at ≡ failed r
+  field_stopped e = sym (stopped before e refl refl)

@@ -10,6 +10,7 @@ use lib.Dec.{ltb}
 use lib.ListN.{length, get_or, drop, set}
 use lib.Seq.{sets, drop-cons}
 use borrow.Author.Tests.{ltb-true}
+use Rattle.std.proofs.Common.{Fits, w8}
 use Rattle.integers.proofs.Ranges.{and_true}
 use Rattle.number.specs.Form.{Bytes}
 
@@ -21,6 +22,15 @@ either false = inr refl
 -- a list from a place on, by what stands there
 pub opened : (s : List ℕ) (at x : ℕ) → at < length s → x ≡ get_or s at 0 → drop at s ≡ x ∷ drop (at + 1) s
 opened s at x h e = rw (e, add-one) (drop-cons s at 0 h)
+
+-- a byte that was read at a place, and what it was widened to
+pub record Byte (s : List ℕ) (at b : ℕ) : Type 0 where
+  pub inside : at < length s
+  pub item : b ≡ get_or s at 0
+  pub small : b < 256
+
+pub byte : {s : List ℕ} {at b x : ℕ} → (at < length s) × ((d : ℕ) → x ≡ get_or s at d) → b ≡ x → ((i : ℕ) → Fits w8 (get_or s i 0)) → Byte s at b
+byte {at = at} f e t = record { inside = f.0; item = e ∙ f.1 0; small = omega (arith, f.1 0, t at) }
 
 -- what a list that goes on with x and then xs has at a place
 pub record Here (s : List ℕ) (at x : ℕ) (xs : List ℕ) : Type 0 where

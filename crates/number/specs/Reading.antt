@@ -1,11 +1,11 @@
 -- Reading a number at a place of some bytes. Document 01's refusals of a number: 10, "bytes end inside a
 -- record or event"; 11, "a number not in its shortest form, or a fifth byte that says more follows"; "a fifth
 -- byte that says more is 11 even where the bytes end there".
-use Rattle.std.specs.Prelude.{Bool, cond, ◌&&◌, List, [], ◌∷◌, ℕ, suc, ◌+◌, ◌*◌, ◌%◌, leb, ltb, eqb, length, get_or, take, drop}
-use Rattle.state.specs.Refusal.{refused_ended, refused_form}
+use Rattle.std.specs.Prelude.{Bool, cond, ◌&&◌, List, [], ◌∷◌, ℕ, suc, ◌+◌, ◌*◌, ◌%◌, leb, ltb, eqb, length, get_or, take, drop, Result, Ok, Err}
+use Rattle.state.specs.Refusal.{refused_ended, refused_form, refusal_number}
 use Rattle.number.specs.Form.{group, top_bit, most_bytes}
-use Rattle.number.specs.declared.decode.Decoded.{Decoded}
-use Rattle.number.specs.declared.decode.Decoded.TheVariants as D
+use Rattle.number.specs.declared.decode.Number.{Number}
+use Rattle.state.specs.declared.refusal.Refusal.{Refusal}
 
 -- What stands at a place: a number, with the place after it; or none, with its number in document 01's table
 -- of refusals.
@@ -44,7 +44,7 @@ judged at bs more =
 unfoldable pub number_at : List ℕ → ℕ → Found
 number_at s at = judged at (drop at s) (leading_more (drop at s))
 
--- what each case of the reader's answer says
-abbrev pub told : Decoded → Found
-told (D.Value value next) = number value next
-told (D.Refused refusal) = refused refusal
+-- what the reader's answer says
+abbrev pub told : Result Number Refusal → Found
+told (Ok n) = number n.value n.next
+told (Err refusal) = refused (refusal_number refusal)

@@ -5,9 +5,9 @@ ghost use Rattle.number.specs.Reading.{number_at, told};
 ghost use Rattle.number.specs.Inner.{later_at, onto, ended_of};
 
 use crate::form::{GROUP, MORE};
-use state::{REFUSED_ENDED, REFUSED_FORM};
+use state::Refusal;
 
-// The least byte that says that more follows.
+// The least byte that says that more follows. Widened by `as`, since a constant calls no function.
 const SAYS_MORE: u64 = MORE as u64;
 
 // What a unit of each group after the first is worth.
@@ -22,98 +22,83 @@ const FIFTH_GROUP: u64 = SECOND_GROUP * FOURTH_GROUP;
 // The top bits of two bytes that say more.
 const TOP_BITS: u64 = SAYS_MORE + SECOND_GROUP * SAYS_MORE;
 
-// What reading at a place gives: the number there, below 2^35, and the place after it; or the refusal, 10 or
-// 11.
-#[derive(Clone, Copy)]
-pub enum Decoded {
-    Value { value: u64, next: usize },
-    Refused(u8),
-}
-
-fn wide(b: u8) -> u64
-    ensures { (result ≡ b) × (result < 256) }
-{
-    b as u64
+// A number that was read, below 2^35, and the place after it.
+#[derive(Clone, Copy, Debug, PartialEq, Eq)]
+pub struct Number {
+    pub value: u64,
+    pub next: usize,
 }
 
 // A number of more than one byte that ends before `next`; `unit` is what a unit of its last group is worth.
 // Below that the last group is 0, and the form not the shortest.
-fn ended(value: u64, unit: u64, next: usize) -> Decoded
+fn ended(value: u64, unit: u64, next: usize) -> Result<Number, Refusal>
     ensures { told result ≡ ended_of value unit next }
 {
     if value < unit {
-        return Decoded::Refused(REFUSED_FORM);
+        return Err(Refusal::Form);
     }
-    Decoded::Value {
-        value: value,
-        next: next,
-    }
+    Ok(Number { value, next })
 }
 
 // The number that starts at `at`, without a loop: most numbers have one or two bytes, and for the others too
 // straight groups take less.
-pub fn read(bytes: &[u8], at: usize) -> Decoded
+pub fn read(bytes: &[u8], at: usize) -> Result<Number, Refusal>
     ensures { told result ≡ number_at bytes.now at }
 {
-    let n = bytes.len();
-    if n <= at {
-        return Decoded::Refused(REFUSED_ENDED);
-    }
-    let b0 = wide(bytes[at]);
-    if b0 < SAYS_MORE {
-        return Decoded::Value {
-            value: b0,
-            next: at + 1,
-        };
-    }
+    let Some(&b0) = bytes.get(at) else {
+        return Err(Refusal::Ended);
+    };
+    let b0 = u64::from(b0);
     let p = at + 1;
-    if n <= p {
-        return Decoded::Refused(REFUSED_ENDED); // one byte, which says that more follows
+    if b0 < SAYS_MORE {
+        return Ok(Number { value: b0, next: p });
     }
-    let b1 = wide(bytes[p]);
+    let Some(&b1) = bytes.get(p) else {
+        return Err(Refusal::Ended); // one byte, which says that more follows
+    };
+    let b1 = u64::from(b1);
     if SAYS_MORE <= b1 {
         return read_long(bytes, p + 1, b0 + SECOND_GROUP * b1 - TOP_BITS);
     }
     if b1 == 0 {
-        return Decoded::Refused(REFUSED_FORM);
+        return Err(Refusal::Form);
     }
-    Decoded::Value {
+    Ok(Number {
         value: b0 + SECOND_GROUP * b1 - SAYS_MORE,
         next: p + 1,
-    }
+    })
 }
 
 // The rest of a number of three bytes or more, from its third byte on; `low` is what the first two hold.
-fn read_long(bytes: &[u8], at: usize, low: u64) -> Decoded
+fn read_long(bytes: &[u8], at: usize, low: u64) -> Result<Number, Refusal>
     requires { low < group * group }
     ensures { told result ≡ onto low (group * group) (later_at 3 bytes.now at) }
 {
-    let n = bytes.len();
-    if n <= at {
-        return Decoded::Refused(REFUSED_ENDED);
-    }
-    let b2 = wide(bytes[at]);
+    let Some(&b2) = bytes.get(at) else {
+        return Err(Refusal::Ended);
+    };
+    let b2 = u64::from(b2);
     let v3 = low + THIRD_GROUP * b2;
     let p = at + 1;
     if b2 < SAYS_MORE {
         return ended(v3, THIRD_GROUP, p);
     }
-    if n <= p {
-        return Decoded::Refused(REFUSED_ENDED);
-    }
-    let b3 = wide(bytes[p]);
+    let Some(&b3) = bytes.get(p) else {
+        return Err(Refusal::Ended);
+    };
+    let b3 = u64::from(b3);
     // The top bit of a byte is worth a unit of the next group, and none of the number.
     let v4 = v3 + FOURTH_GROUP * b3 - FOURTH_GROUP;
     let q = p + 1;
     if b3 < SAYS_MORE {
         return ended(v4, FOURTH_GROUP, q);
     }
-    if n <= q {
-        return Decoded::Refused(REFUSED_ENDED);
-    }
-    let b4 = wide(bytes[q]);
+    let Some(&b4) = bytes.get(q) else {
+        return Err(Refusal::Ended);
+    };
+    let b4 = u64::from(b4);
     if SAYS_MORE <= b4 {
-        return Decoded::Refused(REFUSED_FORM); // whether bytes follow or not
+        return Err(Refusal::Form); // whether bytes follow or not
     }
     ended(v4 + FIFTH_GROUP * b4 - FIFTH_GROUP, FIFTH_GROUP, q + 1)
 }

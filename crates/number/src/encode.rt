@@ -5,19 +5,7 @@ ghost use Rattle.number.specs.Form.{bytes_of, bytes_of_all};
 ghost use Rattle.number.specs.Writing.{Writes};
 
 use crate::form::{GROUP, MORE, MOST_BYTES};
-use state::REFUSED_ROOM;
-
-// The answer of a writer: refusal 0 and the place after what was written, or refusal 14 and 0.
-#[derive(Clone, Copy)]
-pub struct Written {
-    pub refusal: u8,
-    pub next: usize,
-}
-
-const TOO_SHORT: Written = Written {
-    refusal: REFUSED_ROOM,
-    next: 0,
-};
+use state::Refusal;
 
 // A number below these takes no more than one, two, three and four bytes.
 const BELOW_1: u32 = GROUP;
@@ -29,25 +17,21 @@ const BELOW_3: u32 = GROUP * BELOW_2;
 const BELOW_4: u32 = GROUP * BELOW_3;
 
 // How many bytes n is written in.
+#[tactic(auto, using(crate::proofs::Sizes::size_table))]
 pub fn size(n: u32) -> usize
     ensures { result ≡ length (bytes_of n) }
 {
-    if n < BELOW_1 {
-        return 1;
+    match n {
+        0..BELOW_1 => 1,
+        BELOW_1..BELOW_2 => 2,
+        BELOW_2..BELOW_3 => 3,
+        BELOW_3..BELOW_4 => 4,
+        BELOW_4.. => MOST_BYTES,
     }
-    if n < BELOW_2 {
-        return 2;
-    }
-    if n < BELOW_3 {
-        return 3;
-    }
-    if n < BELOW_4 {
-        return 4;
-    }
-    MOST_BYTES
 }
 
-// Writes n from `at` on, where there is room for it, and gives the place after it.
+// Writes n from `at` on, where there is room for it, and gives the place after it. The loop ends with the
+// number and does not go over the buffer: `p` is the place that the next byte takes.
 fn place(buf: &mut [u8], at: usize, n: u32) -> usize
     requires { at + length (bytes_of n) ≤ length buf.old }
     ensures { (result ≡ at + length (bytes_of n)) × (buf.new ≡ sets buf.old at (bytes_of n)) }
@@ -63,22 +47,17 @@ fn place(buf: &mut [u8], at: usize, n: u32) -> usize
     p + 1
 }
 
-// Writes n from `at` on. Every other byte stays; with too little room, every byte.
-pub fn write(buf: &mut [u8], at: usize, n: u32) -> Written
+// Writes n from `at` on, and gives the place after it; every other byte stays. With too little room every
+// byte stays, and the refusal is `Room`.
+pub fn write(buf: &mut [u8], at: usize, n: u32) -> Result<usize, Refusal>
     ensures { Writes buf.old buf.new at (bytes_of n) result }
 {
     let k = size(n);
     let len = buf.len();
-    if len < k {
-        return TOO_SHORT;
+    if len < k || len - k < at {
+        return Err(Refusal::Room);
     }
-    if len - k < at {
-        return TOO_SHORT;
-    }
-    Written {
-        refusal: 0,
-        next: place(buf, at, n),
-    }
+    Ok(place(buf, at, n))
 }
 
 // Whether the numbers are written in at most `room` bytes.
@@ -90,14 +69,12 @@ fn fit_in(ns: &[u32], room: usize) -> bool
         return true;
     }
     let mut left = room;
-    let mut i = 0;
-    while i < ns.len() {
-        let k = size(ns[i]);
+    for &n in ns {
+        let k = size(n);
         if left < k {
             return false;
         }
         left -= k;
-        i += 1;
     }
     true
 }
@@ -109,28 +86,20 @@ fn place_all(buf: &mut [u8], at: usize, ns: &[u32]) -> usize
     ensures { (result ≡ at + length (bytes_of_all ns.now)) × (buf.new ≡ sets buf.old at (bytes_of_all ns.now)) }
 {
     let mut p = at;
-    let mut i = 0;
-    while i < ns.len() {
-        p = place(buf, p, ns[i]);
-        i += 1;
+    for &n in ns {
+        p = place(buf, p, n);
     }
     p
 }
 
-// Writes all the numbers, one after the other, from `at` on. Every other byte stays; with too little room for
-// all of them, every byte.
-pub fn write_all(buf: &mut [u8], at: usize, ns: &[u32]) -> Written
+// Writes all the numbers, one after the other, from `at` on, and gives the place after them; every other
+// byte stays. With too little room for all of them every byte stays, and the refusal is `Room`.
+pub fn write_all(buf: &mut [u8], at: usize, ns: &[u32]) -> Result<usize, Refusal>
     ensures { Writes buf.old buf.new at (bytes_of_all ns.now) result }
 {
     let len = buf.len();
-    if len < at {
-        return TOO_SHORT;
+    if len < at || !fit_in(ns, len - at) {
+        return Err(Refusal::Room);
     }
-    if fit_in(ns, len - at) {
-        return Written {
-            refusal: 0,
-            next: place_all(buf, at, ns),
-        };
-    }
-    TOO_SHORT
+    Ok(place_all(buf, at, ns))
 }

@@ -9,6 +9,6 @@ mod encode;
 mod form;
 mod zigzag;
 
-pub use decode::{Decoded, read};
-pub use encode::{Written, size, write, write_all};
+pub use decode::{Number, read};
+pub use encode::{size, write, write_all};
 pub use zigzag::{map, unmap};

@@ -2,7 +2,8 @@
 ghost use Rattle.std.specs.Prelude.{◌≡◌};
 ghost use Rattle.number.specs.Mapping.{mapped, unmapped};
 
-// The number that a signed state field is written as.
+// The number that a signed state field is written as. A function and not a conversion of the type: only a
+// record or an event writes a signed number so.
 pub fn map(v: i32) -> u32
     ensures { result ≡ mapped v }
 {

@@ -1,20 +1,18 @@
 -- What the crate's private functions promise. No public promise names these.
 use Rattle.std.specs.Prelude.{◌≡◌, Bool, true, false, not, cond, ◌&&◌, List, [], ℕ, ◌+◌, ◌≤◌, ◌<◌, eqb, leb, ltb, length}
 use Rattle.std.proofs.lemmas.List.Edits.{sets}
-use Rattle.state.specs.declared.state.Clock.{Clock}
 use Rattle.event.specs.declared.event.Call as call
 use Rattle.event.specs.declared.event.Call.TheVariants.{Tick, Setting, Request, Reading}
 use Rattle.history.specs.declared.Event.{Event}
 use Rattle.history.specs.Event.{asks_summary}
-use Rattle.summary.specs.Summary.{quarters, summary_of}
+use Rattle.summary.specs.Summary.{quarters}
+use Rattle.summary.specs.declared.cells.Summary.{Summary}
 use Rattle.playback.specs.Lines.{refused_line}
 use Rattle.playback.specs.Event.{outcome_of, line_of, summary_after}
 use Rattle.playback.specs.Run.{longest_history, step, run_after, lines_of}
 use Rattle.playback.specs.Filling.{longest_line}
 use Rattle.playback.specs.declared.run.Run.{Run}
-use Rattle.playback.specs.declared.run.Done.{Done}
 use Rattle.playback.specs.declared.run.Walk.{Walk}
-use Rattle.playback.specs.declared.run.Step.{Step}
 use Rattle.playback.specs.declared.run.Listed.{Listed}
 use Rattle.playback.specs.declared.run.Filling.{Filling}
 
@@ -33,21 +31,16 @@ is_reading Reading = true
 unfoldable pub refusal_line : ℕ → List ℕ
 refusal_line n = cond (eqb n 0) [] (refused_line n)
 
--- the event e ran on c, and its line was put
-pub record RunsEvent (c : Clock) (e : Event) (buf : List ℕ) (at : ℕ) (buf' : List ℕ) (r : Done) : Type 0 where
-  pub line : Puts (line_of c e) buf at buf' r.at
-  pub small : length (line_of c e) ≤ longest_line
-  pub clock : r.clock ≡ (outcome_of c e).clock
+-- the event e ran, its line was put, and the summary was moved that was lent
+pub record RunsEvent (w : Walk) (m : Summary) (e : Event) (buf buf' : List ℕ) (m' : Summary) (now : Walk) : Type 0 where
+  pub line : Puts (line_of w.clock e) buf w.at buf' now.at
+  pub small : length (line_of w.clock e) ≤ longest_line
+  pub stands : now ≡ record { clock = (outcome_of w.clock e).clock; place = w.place; ended = w.ended; at = now.at }
+  pub counts : m' ≡ summary_after w.clock e m
 
--- and the summary was moved whose arrays were lent
-abbrev pub CountsEvent : Clock → Event → (counts largest counts' largest' : List ℕ) → Type 0
-CountsEvent c e counts largest counts' largest' =
-    summary_of counts' largest' ≡ summary_after c e (summary_of counts largest)
-
--- the run whose events have come so far, and whose summary is in two arrays
-abbrev pub standing : Walk → (counts largest : List ℕ) → ℕ → Run
-standing w counts largest q =
-    record { clock = w.clock; place = w.place; ended = w.ended; quarter = q; summary = summary_of counts largest }
+-- the run whose events have come so far, and whose summary is apart
+abbrev pub standing : Walk → Summary → ℕ → Run
+standing w m q = record { clock = w.clock; place = w.place; ended = w.ended; quarter = q; summary = m }
 
 -- there may be an event of s to run
 pub record AtEvent (s : List ℕ) (w : Walk) : Type 0 where
@@ -62,9 +55,8 @@ pub record Steps (s : List ℕ) (run : Run) (buf : List ℕ) (at : ℕ) (buf' : 
   pub stands : now ≡ (step s run).run
 
 -- the step of an event, whatever quarter-hour is next
-abbrev pub Advances : List ℕ → Walk → (counts largest buf : List ℕ) → ℕ → (counts' largest' buf' : List ℕ) → Step → Type 0
-Advances s w counts largest buf at counts' largest' buf' r =
-    (q : ℕ) → Steps s (standing w counts largest q) buf at buf' (standing r.walk counts' largest' q) r.at
+abbrev pub Advances : List ℕ → Walk → Summary → (buf buf' : List ℕ) → Walk → Summary → Type 0
+Advances s w m buf buf' w' m' = (q : ℕ) → Steps s (standing w m q) buf w.at buf' (standing w' m' q) w'.at
 
 -- after k steps from `run` the run has not ended, and of `room` bytes enough are left for one more line,
 -- where the lines of the steps began at `at`
@@ -81,39 +73,38 @@ pub record Made (s : List ℕ) (run : Run) (buf : List ℕ) (at : ℕ) (buf' : L
   pub within : next ≤ length buf
 
 -- the steps of events, whatever quarter-hour is next
-abbrev pub RunsEvents : List ℕ → Walk → (counts largest buf counts' largest' buf' : List ℕ) → Step → Type 0
-RunsEvents s w counts largest buf counts' largest' buf' r =
-    (q : ℕ) → Made s (standing w counts largest q) buf 0 buf' (standing r.walk counts' largest' q) r.at
+abbrev pub RunsEvents : List ℕ → Walk → Summary → (buf buf' : List ℕ) → Walk → Summary → Type 0
+RunsEvents s w m buf buf' w' m' = (q : ℕ) → Made s (standing w m q) buf w.at buf' (standing w' m' q) w'.at
 
 -- whether the events of s go on, where there is room for a line up to the place `last`
-abbrev pub goes_on : List ℕ → Walk → (at last : ℕ) → Bool
-goes_on s w at last = (not w.ended && ltb w.place (length s)) && leb at last
+abbrev pub goes_on : List ℕ → Walk → ℕ → Bool
+goes_on s w last = (not w.ended && ltb w.place (length s)) && leb w.at last
 
--- a run that has come to the end of the bytes
-abbrev pub listing : Clock → ℕ → ℕ → (counts largest : List ℕ) → Run
-listing c place q counts largest =
-    record { clock = c; place = place; ended = false; quarter = q; summary = summary_of counts largest }
+-- the run at a quarter-hour
+abbrev pub at_quarter : Run → ℕ → Run
+at_quarter r q = record { clock = r.clock; place = r.place; ended = r.ended; quarter = q; summary = r.summary }
 
--- and over a history that asks for the summary
-pub record Summing (s : List ℕ) (place : ℕ) : Type 0 where
+-- a run has come to the end of a history that asks for the summary, and m is its summary
+pub record Summing (s : List ℕ) (r : Run) (m : Summary) : Type 0 where
   pub fits : length s ≤ longest_history
-  pub over : length s ≤ place
+  pub going : r.ended ≡ false
+  pub over : length s ≤ r.place
   pub asked : asks_summary s ≡ true
+  pub summary : r.summary ≡ m
 
--- the lines of quarter-hours were put, whatever the history and the clock
-abbrev pub PutsQuarters : (counts largest : List ℕ) → ℕ → List ℕ → ℕ → List ℕ → Listed → Type 0
-PutsQuarters counts largest first buf at buf' r =
-    (s : List ℕ) (c : Clock) (place : ℕ) → Summing s place
-    → Made s (listing c place first counts largest) buf at buf' (listing c place r.quarter counts largest) r.at
+-- the lines of quarter-hours were put, whatever the history and the run
+abbrev pub PutsQuarters : Summary → ℕ → List ℕ → ℕ → List ℕ → Listed → Type 0
+PutsQuarters m first buf at buf' l =
+    (s : List ℕ) (r : Run) → Summing s r m → Made s (at_quarter r first) buf at buf' (at_quarter r l.quarter) l.at
 
 -- where quarter-hours end: at the last, or for want of room
 abbrev pub lists_on : Listed → ℕ → Bool
-lists_on r last = ltb r.quarter quarters && leb r.at last
+lists_on l last = ltb l.quarter quarters && leb l.at last
 
-abbrev pub filled_with : Walk → ℕ → Bool → (counts largest : List ℕ) → ℕ → Filling
-filled_with w q ended counts largest n =
-    record {
-      refusal = 0;
-      run = record { clock = w.clock; place = w.place; ended = ended; quarter = q; summary = summary_of counts largest };
-      length = n;
-    }
+-- the run at the end of a summary's lines, or before it
+abbrev pub ending : Bool → Run → Run
+ending ended r = record { clock = r.clock; place = r.place; ended = ended; quarter = r.quarter; summary = r.summary }
+
+-- a call that was not refused, and wrote n bytes
+abbrev pub filled : Run → ℕ → Filling
+filled run n = record { refusal = 0; run = run; length = n }

@@ -81,7 +81,8 @@ pub(crate) fn put_print(out: &mut [u8], at: usize, c: Clock) -> usize
     requires { (at + longest_line ≤ length out.old) × (in_range c ≡ true) }
     ensures { Puts (print_line c) out.old at out.new result }
 {
-    label::write(c, &mut out[at..]);
+    // The clock is in range, and there is room: nothing is refused.
+    let _ = label::write(c, &mut out[at..]);
     let us = c.micros.0;
     let rest = [
         b' ',

@@ -9,41 +9,40 @@ use native.Mathlib.Omega.{arith}
 use mir.Syntax.{w32}
 use mir.Val.{to_z, of_z}
 use mir.Facts.{to_z-of_z}
-use Rattle.number.specs.declared.decode.Decoded.{Decoded}
-use Rattle.number.specs.declared.decode.Decoded.TheVariants as D
-use Rattle.number.specs.Inner.{refused_as}
-use Rattle.number.specs.Reading.{Found, number, refused, number_at, told}
+use Rattle.std.specs.Prelude.{Result, Ok, Err, IsErrAnd}
+use Rattle.std.proofs.lemmas.Result.{err_from_is_err_and}
+use Rattle.number.specs.Reading.{Found, number, refused, number_at}
 use Rattle.number.proofs.Lists.{either}
 use Rattle.state.specs.Device.{device_of}
 use Rattle.state.specs.State.{phase_range, offset_range, frequency_range, adjustment_range, parts_range}
 use Rattle.state.specs.declared.device.Device.{Device}
 use Rattle.state.proofs.DeviceLaws.{fits_least, fits_most}
-use Rattle.number.specs.Layout.{judged_by, field_at, place_at, suits, mapped_range}
+use Rattle.number.specs.Layout.{Layout, place, judged_by, field_at, place_at, suits, mapped_range, failed, read_from}
+use Rattle.state.specs.declared.state.Clock.{Clock}
 use Rattle.record.specs.Layout.{last_range}
 use Rattle.record.specs.Inner.{told_field, up_to, between_z, mapped_phase, mapped_offset, mapped_frequency, mapped_parts, last_most}
 use Rattle.record.proofs.Ranges.{phase_test, offset_test, frequency_test, parts_test, last_test}
-use Rattle.record.specs.declared.field.Field.{Field}
-use Rattle.record.specs.declared.field.Field.TheVariants as F
+use Rattle.record.specs.declared.field.Read.{Read}
+use Rattle.number.proofs.Layouts.{field_went, field_stopped}
+use Rattle.state.specs.Refusal.{refusal_number}
+use Rattle.state.specs.declared.refusal.Refusal.{Refusal}
 
-module _ (range : ℕ → Bool) (s : List ℕ) (at : ℕ) {d : Decoded} (e : told d ≡ number_at s at) where
-  pub field_no : {r : ℕ} {x : Found} → d ≡ D.Refused r → x ≡ refused_as refused (told d) → x ≡ field_at range s at
+-- a refusal that `?` hands on is the one that it got
+pub passed_on : {T E : Type 0} (x : Result T E) (e : E) → IsErrAnd x (λ y. y ≡ e) → x ≡ Err e
+passed_on x e h = let w = err_from_is_err_and x h in w.1 ∙ ap Err w.2
+
+module _ (range : ℕ → Bool) (s : List ℕ) (at : ℕ) where
+  pub field_no : {r : ℕ} → refused r ≡ number_at s at → refused r ≡ field_at range s at
   unfolding field_at judged_by
-  field_no f p =
-      p ∙ ap (λ (y : Decoded). refused_as refused (told y)) f
-      ∙ ap (λ (y : Decoded). judged_by range (told y)) (sym f) ∙ ap (judged_by range) e
+  field_no e = ap (judged_by range) e
 
-  module _ {v k : ℕ} (f : d ≡ D.Value v k) where
-    judged_number : judged_by range (number v k) ≡ field_at range s at
-    unfolding field_at
-    judged_number = ap (λ (x : Decoded). judged_by range (told x)) (sym f) ∙ ap (judged_by range) e
+  pub field_in : {v next : ℕ} → number v next ≡ number_at s at → range v ≡ true → number v next ≡ field_at range s at
+  unfolding field_at judged_by
+  field_in e w = simp w at (ap (judged_by range) e)
 
-    pub field_in : range v ≡ true → number v k ≡ field_at range s at
-    unfolding judged_by
-    field_in w = simp w at judged_number
-
-    pub field_out : range v ≡ false → refused 12 ≡ field_at range s at
-    unfolding judged_by
-    field_out w = simp w at judged_number
+  pub field_out : {v next : ℕ} → number v next ≡ number_at s at → range v ≡ false → refused 12 ≡ field_at range s at
+  unfolding field_at judged_by
+  field_out e w = simp w at (ap (judged_by range) e)
 
 -- two ranges that agree are one
 judged_same : (p q : ℕ → Bool) → ((n : ℕ) → p n ≡ q n) → (x : Found) → judged_by p x ≡ judged_by q x
@@ -98,15 +97,22 @@ judged_in range (number n j) {v} {k} e =
     (either (range n))
 judged_in range (refused r) e = let z : ◌≡◌ {A = ℕ} 0 1 = cc in absurd (omega arith)
 
-pub read_in : (range : ℕ → Bool) (s : List ℕ) (at : ℕ) {d : Field} {v k : ℕ} → told_field d ≡ field_at range s at → d ≡ F.Value v k → range v ≡ true
+pub read_in : (range : ℕ → Bool) (s : List ℕ) (at : ℕ) {v next : ℕ} → number v next ≡ field_at range s at → range v ≡ true
 unfolding field_at
-read_in range s at e f = judged_in range (number_at s at) (ap told_field (sym f) ∙ e)
+read_in range s at e = judged_in range (number_at s at) e
 
 -- .. and at a place that may not be there it suits the place
-pub read_suits : (here : Bool) (range : ℕ → Bool) (s : List ℕ) (at : ℕ) {d : Field} {v k : ℕ} → told_field d ≡ place_at here range s at → d ≡ F.Value v k
-    → suits here range v ≡ true
-read_suits true range s at e f = read_in range s at e f
-read_suits false range s at {v = v} {k = k} e f =
-    let g : number v k ≡ number 0 at = ap told_field (sym f) ∙ e in
+pub read_suits : (here : Bool) (range : ℕ → Bool) (s : List ℕ) (at : ℕ) {v next : ℕ} → number v next ≡ place_at here range s at → suits here range v ≡ true
+read_suits true range s at e = read_in range s at e
+read_suits false range s at {v = v} e =
     let h : v ≡ 0 = cc in
     rw h
+
+-- ---- how a reading goes on after a field
+
+module _ {A : Type 0} (here : Bool) (range : ℕ → Bool) (rest : ℕ → Layout A) (s : List ℕ) (at : ℕ) {d : Result (Read ℕ) Refusal} where
+  pub field_ok : {f : Read ℕ} → d ≡ Ok f → told_field d ≡ place_at here range s at → read_from (place here range rest) s at ≡ read_from (rest f.value) s f.next
+  field_ok q p = field_went here range rest s at (ap told_field (sym q) ∙ p)
+
+  pub field_err : {r : Refusal} → d ≡ Err r → told_field d ≡ place_at here range s at → read_from (place here range rest) s at ≡ failed (refusal_number r)
+  field_err q p = field_stopped here range rest s at (ap told_field (sym q) ∙ p)

@@ -24,7 +24,7 @@ use Rattle.record.specs.Reading.{restored, reading_of, accepted}
 use Rattle.record.specs.Saving.{saving_of, buffer_after}
 use Rattle.record.specs.Properties.{Says, ReadsBack, NothingFollows, WritesNewest, version_of, Whole, OneForm, OneNewest, SavedIsKept}
 use Rattle.record.specs.declared.groups.Update.{Update}
-use Rattle.record.specs.declared.save.Saved.{Saved}
+use Rattle.record.specs.Saving.{Saved}
 use Rattle.record.proofs.SavingLaws.{out_of_range, too_short, stored}
 use Rattle.record.proofs.FieldSizes.{version_small}
 use Rattle.record.proofs.Saying.{PartsSuit, update_parts, kind_sound, parts_sound, choice, choice_clock, ahead, version_chosen, flag_of, last_of, places_picked, said}

@@ -16,11 +16,10 @@ use Rattle.state.specs.State.{fresh_clock}
 use Rattle.state.specs.declared.state.Clock.{Clock}
 use Rattle.record.specs.Layout.{newest, record_layout, record_in, record_of}
 use Rattle.record.specs.Reading.{reading_of, accepted, refused_with}
-use Rattle.record.specs.Saving.{saving_of}
+use Rattle.record.specs.Saving.{Saved, saving_of}
 use Rattle.record.specs.Properties.{Says, fresh_fields256, no_parts}
 use Rattle.record.specs.WrongReaders.{takes_damaged, gives_kind1, ShutOut}
 use Rattle.record.specs.declared.restore.Restored.{Restored}
-use Rattle.record.specs.declared.save.Saved.{Saved}
 use Rattle.record.proofs.SavingLaws.{stored}
 use Rattle.record.proofs.Refusals.{exactly_when}
 use Rattle.record.proofs.RoundTrip.{reads_back, nothing_follows, writes_newest}

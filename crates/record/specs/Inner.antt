@@ -1,26 +1,20 @@
 -- What the reader's private functions answer. No public promise names these.
-use Rattle.std.specs.Prelude.{ℕ, ◌*◌, ◌-◌, ℤ, Bool, cond, ◌&&◌, leb, eqb}
+use Rattle.std.specs.Prelude.{◌≡◌, List, ℕ, ◌*◌, ◌-◌, ℤ, Bool, cond, ◌&&◌, leb, eqb, Result, Ok, Err}
 use Rattle.std.specs.Int.Signed.{le_z}
-use Rattle.number.specs.Layout.{Layout, whole}
+use Rattle.number.specs.Layout.{Layout, Outcome, got, failed, read_from}
 use Rattle.number.specs.Reading.{Found, number, refused}
 use Rattle.state.specs.Device.{device_of}
 use Rattle.state.specs.Units.{offset_units_per_micro, phase_units_per_micro}
 use Rattle.state.specs.State.{last_second, longest_interval, greatest_offset, greatest_frequency}
 use Rattle.state.specs.declared.state.Clock.{Clock}
-use Rattle.record.specs.Layout.{time_fields, loop_fields, rate_fields, update_fields, error_fields, part_fields, clock_of}
-use Rattle.record.specs.declared.field.Field.{Field}
-use Rattle.record.specs.declared.field.Field.TheVariants as F
-use Rattle.record.specs.declared.groups.Head.{Head}
-use Rattle.record.specs.declared.groups.Time.{Time}
-use Rattle.record.specs.declared.groups.Loop.{Loop}
-use Rattle.record.specs.declared.groups.Rate.{Rate}
-use Rattle.record.specs.declared.groups.Update.{Update}
-use Rattle.record.specs.declared.groups.Errors.{Errors}
+use Rattle.record.specs.declared.field.Read.{Read}
+use Rattle.state.specs.declared.refusal.Refusal.{Refusal}
+use Rattle.state.specs.Refusal.{refusal_number}
 
--- what each case of a field reader's answer says
-abbrev pub told_field : Field → Found
-told_field (F.Value value next) = number value next
-told_field (F.Refused refusal) = refused refusal
+-- what a field reader's answer says
+abbrev pub told_field : Result (Read ℕ) Refusal → Found
+told_field (Ok r) = number r.value r.next
+told_field (Err refusal) = refused (refusal_number refusal)
 
 -- 0 to most
 abbrev pub up_to : ℕ → ℕ → Bool
@@ -48,22 +42,17 @@ mapped_parts kind = 2 * ((device_of kind).divisor - 1)
 abbrev pub last_most : ℕ → ℕ → ℕ
 last_most version flag = cond (eqb flag 1) (cond (eqb version 1) last_second longest_interval) 0
 
--- ---- a group of fields and those behind it, after the groups before it
+-- what the reader of all fields answers
+abbrev pub told_clock : Result Clock Refusal → Outcome Clock
+told_clock (Ok c) = got c
+told_clock (Err refusal) = failed (refusal_number refusal)
 
-unfoldable pub from_parts : Head → Time → Loop → Rate → Update → Errors → Layout Clock
-from_parts h t l a u e = part_fields h (λ p. whole (clock_of h t l a u e p))
+-- A reading that goes on, from the place after it, with what was read; a refusal ends it.
+abbrev pub went_on : {A : Type 0} → Result (Read A) Refusal → (A → Layout Clock) → List ℕ → Outcome Clock
+went_on (Ok r) rest s = read_from (rest r.value) s r.next
+went_on (Err refusal) rest s = failed (refusal_number refusal)
 
-unfoldable pub from_errors : Head → Time → Loop → Rate → Update → Layout Clock
-from_errors h t l a u = error_fields (λ e. from_parts h t l a u e)
-
-unfoldable pub from_update : Head → Time → Loop → Rate → Layout Clock
-from_update h t l a = update_fields h.version (λ u. from_errors h t l a u)
-
-unfoldable pub from_rate : Head → Time → Loop → Layout Clock
-from_rate h t l = rate_fields h.kind (λ a. from_update h t l a)
-
-unfoldable pub from_loop : Head → Time → Layout Clock
-from_loop h t = loop_fields (λ l. from_rate h t l)
-
-unfoldable pub from_time : Head → Layout Clock
-from_time h = time_fields (λ t. from_loop h t)
+-- What the reader of a group of fields at place `at` of s answers: whatever follows the group, a reading of
+-- both goes on so.
+abbrev pub ReadsGroup : {A : Type 0} → ((A → Layout Clock) → Layout Clock) → List ℕ → ℕ → Result (Read A) Refusal → Type 0
+ReadsGroup {A} fields s at r = (rest : A → Layout Clock) → read_from (fields rest) s at ≡ went_on r rest s

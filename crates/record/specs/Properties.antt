@@ -15,7 +15,7 @@ use Rattle.state.specs.declared.state.Clock.{Clock}
 use Rattle.record.specs.Layout.{newest, known_version, holds_kind, holds_parts, reftime_range, last_range, kept_update, record_in, record_of, record_layout}
 use Rattle.record.specs.Reading.{reading_of, accepted, refused_with}
 use Rattle.record.specs.declared.restore.Restored.{Restored}
-use Rattle.record.specs.declared.save.Saved.{Saved}
+use Rattle.record.specs.Saving.{Saved}
 
 -- a remainder or a leftover that a record of this version and kind can hold
 abbrev pub suits_parts : ℕ → ℕ → ℤ → Bool

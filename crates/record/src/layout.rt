@@ -12,12 +12,6 @@ pub(crate) const KIND_SINCE: u32 = 3;
 
 pub(crate) const PARTS_SINCE: u32 = 4;
 
-fn wide(x: u8) -> u32
-    ensures { result ≡ x }
-{
-    x as u32
-}
-
 // How many numbers a record has that is written.
 pub(crate) const NUMBERS: usize = 16;
 
@@ -33,19 +27,19 @@ pub(crate) fn numbers(c: Clock) -> [u32; NUMBERS]
     let leftover = number::map(c.leftover.0);
     [
         VERSION,
-        wide(c.kind),
+        u32::from(c.kind),
         c.seconds,
         c.micros.0,
         phase,
         offset,
         frequency,
         adjustment,
-        wide(c.constant),
-        wide(c.updated),
+        u32::from(c.constant),
+        u32::from(c.updated),
         c.interval,
         c.maxerror.0,
         c.esterror.0,
-        wide(c.status),
+        u32::from(c.status),
         remainder,
         leftover,
     ]

@@ -10,4 +10,4 @@ mod restore;
 mod save;
 
 pub use restore::{Restored, read};
-pub use save::{Saved, write};
+pub use save::write;

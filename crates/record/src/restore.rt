@@ -1,17 +1,16 @@
 // Reading a clock's record.
 ghost use Rattle.std.specs.Prelude.{◌≡◌};
-ghost use Rattle.number.specs.Layout.{whole, read_from};
-ghost use Rattle.record.specs.Reading.{restored, reading_of, refused_with};
-ghost use Rattle.number.specs.Inner.{refused_as};
-ghost use Rattle.record.specs.Inner.{told_field, last_most, mapped_parts, from_time, from_loop, from_rate, from_update, from_errors, from_parts};
+ghost use Rattle.number.specs.Layout.{read_from};
+ghost use Rattle.record.specs.Layout.{record_layout, head_fields, time_fields, loop_fields, rate_fields, update_fields, error_fields, part_fields};
+ghost use Rattle.record.specs.Reading.{reading_of};
+ghost use Rattle.record.specs.Inner.{told_clock, ReadsGroup, last_most, mapped_parts};
 
-use crate::field::{Field, plain, signed, since, version};
+use crate::field::{Read, plain, signed, since, small, version};
 use crate::groups::{Errors, Head, Loop, Parts, Rate, Time, Update, clock_of, kept_update};
 use crate::layout::{KIND_SINCE, PARTS_SINCE};
 use state::{
     Clock, KIND_256, KIND_1024, LAST_MICRO, LAST_SECOND, MAX_CONSTANT, MAX_ERROR, MAX_FREQUENCY,
-    MAX_INTERVAL, MAX_OFFSET, PHASE_UPPER_END, REFUSED_BEYOND, REFUSED_FIELD, TIME_BAD,
-    device_constants, fresh,
+    MAX_INTERVAL, MAX_OFFSET, PHASE_UPPER_END, Refusal, TIME_BAD, device_constants, fresh,
 };
 
 // The last of the kinds.
@@ -26,36 +25,149 @@ const MAPPED_OFFSET: u32 = 2 * (MAX_OFFSET as u32);
 const MAPPED_FREQUENCY: u32 = 2 * (MAX_FREQUENCY as u32);
 
 // The answer of a reading: refusal 0 and the clock that was saved, or refusal 10, 11, 12 or 13 and the fresh
-// clock of kind 0.
-#[derive(Clone, Copy)]
+// clock of kind 0. A struct and not a Result, since a refused reading gives a clock too.
+#[derive(Clone, Copy, Debug, PartialEq, Eq)]
 pub struct Restored {
     pub refusal: u8,
     pub clock: Clock,
 }
 
-fn refused_with(n: u8) -> Restored
-    ensures { result ≡ refused_with n }
+// The clock that the bytes are a record of.
+pub fn read(bytes: &[u8]) -> Restored
+    ensures { result ≡ reading_of bytes.now }
 {
-    let clock = fresh(KIND_256).clock;
-    Restored {
-        refusal: n,
-        clock: clock,
+    match clock_in(bytes) {
+        Ok(clock) => Restored { refusal: 0, clock },
+        Err(refusal) => Restored {
+            refusal: refusal.number(),
+            clock: fresh(KIND_256).clock,
+        },
     }
 }
 
-// The answer of a reading that this field ends.
-fn refused(d: Field) -> Restored
-    ensures { result ≡ refused_as refused_with (told_field d) }
+// The groups of fields one after the other, behind which nothing may follow.
+fn clock_in(bytes: &[u8]) -> Result<Clock, Refusal>
+    ensures { told_clock result ≡ read_from record_layout bytes.now 0 }
 {
-    match d {
-        Field::Refused(n) => refused_with(n),
-        Field::Value(_, _) => refused_with(REFUSED_FIELD),
+    let head = head_at(bytes)?;
+    let h = head.value;
+    let time = time_at(bytes, head.next)?;
+    let tuning = loop_at(bytes, time.next)?;
+    let rate = rate_at(bytes, tuning.next, h.kind)?;
+    let update = update_at(bytes, rate.next, h.version)?;
+    let errors = errors_at(bytes, update.next)?;
+    let parts = parts_at(bytes, errors.next, h)?;
+    let end = parts.next;
+    if end < bytes.len() {
+        return Err(Refusal::Beyond);
     }
+    Ok(clock_of(
+        h,
+        time.value,
+        tuning.value,
+        rate.value,
+        update.value,
+        errors.value,
+        parts.value,
+    ))
+}
+
+// The groups of fields. Each field's answer is taken apart by `let .. else`, the form that document 01 names,
+// where `?` would say the same.
+
+// Version and kind, which stand at the beginning.
+fn head_at(bytes: &[u8]) -> Result<Read<Head>, Refusal>
+    ensures { ReadsGroup head_fields bytes.now 0 result }
+{
+    let d = version(bytes);
+    let Ok(version) = d else {
+        return Err(d.unwrap_err());
+    };
+    let d = since(KIND_SINCE, version.value, bytes, version.next, LAST_KIND);
+    let Ok(kind) = d else {
+        return Err(d.unwrap_err());
+    };
+    Ok(Read {
+        value: Head {
+            version: version.value,
+            kind: kind.value as u8,
+        },
+        next: kind.next,
+    })
+}
+
+// Seconds, microseconds and phase.
+fn time_at(bytes: &[u8], at: usize) -> Result<Read<Time>, Refusal>
+    ensures { ReadsGroup time_fields bytes.now at result }
+{
+    let d = plain(bytes, at, LAST_SECOND);
+    let Ok(seconds) = d else {
+        return Err(d.unwrap_err());
+    };
+    let d = plain(bytes, seconds.next, LAST_MICRO);
+    let Ok(micros) = d else {
+        return Err(d.unwrap_err());
+    };
+    let d = plain(bytes, micros.next, MAPPED_PHASE);
+    let Ok(phase) = d else {
+        return Err(d.unwrap_err());
+    };
+    Ok(Read {
+        value: Time {
+            seconds: seconds.value,
+            micros: micros.value,
+            phase: phase.value,
+        },
+        next: phase.next,
+    })
+}
+
+// Offset left and frequency.
+fn loop_at(bytes: &[u8], at: usize) -> Result<Read<Loop>, Refusal>
+    ensures { ReadsGroup loop_fields bytes.now at result }
+{
+    let d = plain(bytes, at, MAPPED_OFFSET);
+    let Ok(offset) = d else {
+        return Err(d.unwrap_err());
+    };
+    let d = plain(bytes, offset.next, MAPPED_FREQUENCY);
+    let Ok(frequency) = d else {
+        return Err(d.unwrap_err());
+    };
+    Ok(Read {
+        value: Loop {
+            offset: offset.value,
+            frequency: frequency.value,
+        },
+        next: frequency.next,
+    })
+}
+
+// Adjustment, in the range of the record's own device, and time constant.
+fn rate_at(bytes: &[u8], at: usize, kind: u8) -> Result<Read<Rate>, Refusal>
+    ensures { ReadsGroup (rate_fields kind) bytes.now at result }
+{
+    let device = device_constants(kind).device;
+    let d = signed(bytes, at, device.least.0, device.most.0);
+    let Ok(adjustment) = d else {
+        return Err(d.unwrap_err());
+    };
+    let d = small(bytes, adjustment.next, MAX_CONSTANT);
+    let Ok(constant) = d else {
+        return Err(d.unwrap_err());
+    };
+    Ok(Read {
+        value: Rate {
+            adjustment: adjustment.value,
+            constant: constant.value,
+        },
+        next: constant.next,
+    })
 }
 
 // The largest number behind the flag of an earlier update: its second in version 1, else the rollovers since
 // it; 0 where there is none.
-fn last_most(version: u32, flag: u32) -> u32
+fn last_most(version: u32, flag: u8) -> u32
     ensures { result ≡ last_most version flag }
 {
     if flag != 1 {
@@ -67,6 +179,50 @@ fn last_most(version: u32, flag: u32) -> u32
     }
 }
 
+// The earlier update: its flag, and its second or the rollovers since it.
+fn update_at(bytes: &[u8], at: usize, version: u32) -> Result<Read<Update>, Refusal>
+    ensures { ReadsGroup (update_fields version) bytes.now at result }
+{
+    let d = small(bytes, at, 1);
+    let Ok(flag) = d else {
+        return Err(d.unwrap_err());
+    };
+    let d = plain(bytes, flag.next, last_most(version, flag.value));
+    let Ok(last) = d else {
+        return Err(d.unwrap_err());
+    };
+    Ok(Read {
+        value: kept_update(version, flag.value, last.value),
+        next: last.next,
+    })
+}
+
+// Both errors and the status.
+fn errors_at(bytes: &[u8], at: usize) -> Result<Read<Errors>, Refusal>
+    ensures { ReadsGroup error_fields bytes.now at result }
+{
+    let d = plain(bytes, at, MAX_ERROR);
+    let Ok(maxerror) = d else {
+        return Err(d.unwrap_err());
+    };
+    let d = plain(bytes, maxerror.next, MAX_ERROR);
+    let Ok(esterror) = d else {
+        return Err(d.unwrap_err());
+    };
+    let d = small(bytes, esterror.next, TIME_BAD);
+    let Ok(status) = d else {
+        return Err(d.unwrap_err());
+    };
+    Ok(Read {
+        value: Errors {
+            maxerror: maxerror.value,
+            esterror: esterror.value,
+            status: status.value,
+        },
+        next: status.next,
+    })
+}
+
 // The greatest number that a remainder or a leftover is mapped to: either has fewer parts than make a unit of
 // the record's own device.
 fn mapped_parts(kind: u8) -> u32
@@ -75,173 +231,24 @@ fn mapped_parts(kind: u8) -> u32
     2 * (device_constants(kind).device.divisor - 1)
 }
 
-// The clock that the bytes are a record of.
-pub fn read(bytes: &[u8]) -> Restored
-    ensures { result ≡ reading_of bytes.now }
-{
-    let d0 = version(bytes);
-    let Field::Value(v, n0) = d0 else {
-        return refused(d0);
-    };
-    let d1 = since(KIND_SINCE, v, bytes, n0, LAST_KIND);
-    let Field::Value(k, n1) = d1 else {
-        return refused(d1);
-    };
-    let k = k as u8;
-    let h = Head {
-        version: v,
-        kind: k,
-    };
-    time_fields(bytes, n1, h)
-}
-
-// Each group of fields takes what was read before it, and hands it on to the next with its own. The groups
-// are small: a call behind more than three fields that may be refused is taken for one that is seldom made,
-// and not inlined.
-
-// Seconds, microseconds and phase.
-fn time_fields(bytes: &[u8], at: usize, h: Head) -> Restored
-    ensures { result ≡ restored (read_from (from_time h) bytes.now at) }
-{
-    let d1 = plain(bytes, at, LAST_SECOND);
-    let Field::Value(seconds, n1) = d1 else {
-        return refused(d1);
-    };
-    let d2 = plain(bytes, n1, LAST_MICRO);
-    let Field::Value(micros, n2) = d2 else {
-        return refused(d2);
-    };
-    let d3 = plain(bytes, n2, MAPPED_PHASE);
-    let Field::Value(phase, n3) = d3 else {
-        return refused(d3);
-    };
-    let t = Time {
-        seconds: seconds,
-        micros: micros,
-        phase: phase,
-    };
-    loop_fields(bytes, n3, h, t)
-}
-
-// Offset left and frequency.
-fn loop_fields(bytes: &[u8], at: usize, h: Head, t: Time) -> Restored
-    ensures { result ≡ restored (read_from (from_loop h t) bytes.now at) }
-{
-    let d1 = plain(bytes, at, MAPPED_OFFSET);
-    let Field::Value(offset, n1) = d1 else {
-        return refused(d1);
-    };
-    let d2 = plain(bytes, n1, MAPPED_FREQUENCY);
-    let Field::Value(frequency, n2) = d2 else {
-        return refused(d2);
-    };
-    let l = Loop {
-        offset: offset,
-        frequency: frequency,
-    };
-    rate_fields(bytes, n2, h, t, l)
-}
-
-// Adjustment, in the range of the record's own device, and time constant.
-fn rate_fields(bytes: &[u8], at: usize, h: Head, t: Time, l: Loop) -> Restored
-    ensures { result ≡ restored (read_from (from_rate h t l) bytes.now at) }
-{
-    let device = device_constants(h.kind).device;
-    let d1 = signed(bytes, at, device.least.0, device.most.0);
-    let Field::Value(adjustment, n1) = d1 else {
-        return refused(d1);
-    };
-    let d2 = plain(bytes, n1, MAX_CONSTANT as u32);
-    let Field::Value(constant, n2) = d2 else {
-        return refused(d2);
-    };
-    let constant = constant as u8;
-    let a = Rate {
-        adjustment: adjustment,
-        constant: constant,
-    };
-    update_fields(bytes, n2, h, t, l, a)
-}
-
-// The earlier update: its flag, and its second or the rollovers since it.
-fn update_fields(bytes: &[u8], at: usize, h: Head, t: Time, l: Loop, a: Rate) -> Restored
-    ensures { result ≡ restored (read_from (from_update h t l a) bytes.now at) }
-{
-    let d1 = plain(bytes, at, 1);
-    let Field::Value(flag, n1) = d1 else {
-        return refused(d1);
-    };
-    let d2 = plain(bytes, n1, last_most(h.version, flag));
-    let Field::Value(last, n2) = d2 else {
-        return refused(d2);
-    };
-    let u = kept_update(h.version, flag as u8, last);
-    error_fields(bytes, n2, h, t, l, a, u)
-}
-
-// Both errors and the status.
-fn error_fields(bytes: &[u8], at: usize, h: Head, t: Time, l: Loop, a: Rate, u: Update) -> Restored
-    ensures { result ≡ restored (read_from (from_errors h t l a u) bytes.now at) }
-{
-    let d1 = plain(bytes, at, MAX_ERROR);
-    let Field::Value(maxerror, n1) = d1 else {
-        return refused(d1);
-    };
-    let d2 = plain(bytes, n1, MAX_ERROR);
-    let Field::Value(esterror, n2) = d2 else {
-        return refused(d2);
-    };
-    let d3 = plain(bytes, n2, TIME_BAD as u32);
-    let Field::Value(status, n3) = d3 else {
-        return refused(d3);
-    };
-    let status = status as u8;
-    let e = Errors {
-        maxerror: maxerror,
-        esterror: esterror,
-        status: status,
-    };
-    part_fields(bytes, n3, h, t, l, a, u, e)
-}
-
 // Remainder and leftover, which are the last.
-fn part_fields(
-    bytes: &[u8],
-    at: usize,
-    h: Head,
-    t: Time,
-    l: Loop,
-    a: Rate,
-    u: Update,
-    e: Errors,
-) -> Restored
-    ensures { result ≡ restored (read_from (from_parts h t l a u e) bytes.now at) }
+fn parts_at(bytes: &[u8], at: usize, h: Head) -> Result<Read<Parts>, Refusal>
+    ensures { ReadsGroup (part_fields h) bytes.now at result }
 {
     let most = mapped_parts(h.kind);
-    let d1 = since(PARTS_SINCE, h.version, bytes, at, most);
-    let Field::Value(remainder, n1) = d1 else {
-        return refused(d1);
+    let d = since(PARTS_SINCE, h.version, bytes, at, most);
+    let Ok(remainder) = d else {
+        return Err(d.unwrap_err());
     };
-    let d2 = since(PARTS_SINCE, h.version, bytes, n1, most);
-    let Field::Value(leftover, n2) = d2 else {
-        return refused(d2);
+    let d = since(PARTS_SINCE, h.version, bytes, remainder.next, most);
+    let Ok(leftover) = d else {
+        return Err(d.unwrap_err());
     };
-    let p = Parts {
-        remainder: remainder,
-        leftover: leftover,
-    };
-    finished(bytes, n2, clock_of(h, t, l, a, u, e, p))
-}
-
-// After the last field: nothing may follow.
-fn finished(bytes: &[u8], at: usize, c: Clock) -> Restored
-    ensures { result ≡ restored (read_from (whole c) bytes.now at) }
-{
-    if at < bytes.len() {
-        return refused_with(REFUSED_BEYOND);
-    }
-    Restored {
-        refusal: 0,
-        clock: c,
-    }
+    Ok(Read {
+        value: Parts {
+            remainder: remainder.value,
+            leftover: leftover.value,
+        },
+        next: leftover.next,
+    })
 }

@@ -1,4 +1,4 @@
--- What `inRange` says, as bounds that `omega` reads, and back.
+-- What `in_range` says, as bounds that `omega` reads, and back.
 use mathlib.Core.Path.{◌≡◌}
 use mathlib.Core.Bool.{true, ◌||◌, and-false}
 use Prim.Native.Nat.{ℕ, ◌+◌, ◌≤◌, ◌<◌}

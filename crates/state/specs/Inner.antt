@@ -25,12 +25,13 @@ last_fields_range c =
     && error_range c.esterror.0
     && status_range c.status
 
+abbrev pub of_device : Device → ℤ → ℤ → ℤ → Bool
+of_device d adjustment remainder leftover =
+    adjustment_range d adjustment && parts_range d remainder && parts_range d leftover
+
 abbrev pub fields_of_kind : ℕ → ℤ → ℤ → ℤ → Bool
 fields_of_kind kind adjustment remainder leftover =
-    kind_range kind
-    && adjustment_range (device_of kind) adjustment
-    && parts_range (device_of kind) remainder
-    && parts_range (device_of kind) leftover
+    kind_range kind && of_device (device_of kind) adjustment remainder leftover
 
 -- the longest tick: its own microseconds, the greatest adjustment, and a unit of the leftover (phase units)
 abbrev pub longest_tick : Device → ℕ

@@ -43,7 +43,8 @@ pub(crate) const RECORDER_1024: Device = Device {
     most: PhaseUnits(209977088),
 };
 
-// The kinds of device that a clock can carry.
+// The kinds of device that a clock can carry. Numbers and no enum: a clock from C or from a record may carry
+// any byte, and each call says what it answers to one that is no kind.
 pub const KIND_256: u8 = 0;
 
 pub const KIND_1024: u8 = 1;
@@ -59,7 +60,8 @@ pub(crate) fn device_of(kind: u8) -> Device
     }
 }
 
-// A kind's constants: refusal 0 and those of the kind, or refusal 1 and those of kind 0.
+// A kind's constants: refusal 0 and those of the kind, or refusal 1 and those of kind 0. No Result: of any
+// number there are constants that the rules take.
 #[derive(Clone, Copy)]
 pub struct Constants {
     pub refusal: u8,

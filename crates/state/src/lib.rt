@@ -6,6 +6,7 @@
 mod device;
 mod limits;
 mod outcome;
+mod refusal;
 mod refusals;
 mod state;
 mod units;
@@ -19,6 +20,7 @@ pub use limits::{
     state_limits, status_codes, unit_scales,
 };
 pub use outcome::Outcome;
+pub use refusal::{NoRefusal, Refusal};
 pub use refusals::{
     REFUSED_BEYOND, REFUSED_CEILING, REFUSED_CONSTANT, REFUSED_ENDED, REFUSED_ERROR, REFUSED_FIELD,
     REFUSED_FORM, REFUSED_FREQUENCY, REFUSED_LABEL, REFUSED_LAST, REFUSED_MODE, REFUSED_OFFSET,

@@ -1,63 +1,46 @@
 ghost use Rattle.std.specs.Prelude.{◌≡◌};
 ghost use Rattle.state.specs.Limits.{refusal_numbers};
 
-// The refusals' numbers, by the names that C has for them; 0 is accepted. A call says which of them it gives.
-// a state field lies outside its range
-pub const REFUSED_STATE: u8 = 1;
+use crate::refusal::Refusal;
 
-// a setting outside the ranges of seconds or microseconds
-pub const REFUSED_TIME: u8 = 2;
+// The numbers of the refusals by the names that C has for them, as an answer holds one; 0 is accepted.
+pub const REFUSED_STATE: u8 = Refusal::State as u8;
 
-// the tick would roll over from second 4,294,967,295
-pub const REFUSED_LAST: u8 = 3;
+pub const REFUSED_TIME: u8 = Refusal::Time as u8;
 
-// mode above 63
-pub const REFUSED_MODE: u8 = 4;
+pub const REFUSED_LAST: u8 = Refusal::Last as u8;
 
-// selected offset not within -127,999..127,999
-pub const REFUSED_OFFSET: u8 = 5;
+pub const REFUSED_MODE: u8 = Refusal::Mode as u8;
 
-// selected frequency not strictly between the ends of its range
-pub const REFUSED_FREQUENCY: u8 = 6;
+pub const REFUSED_OFFSET: u8 = Refusal::Offset as u8;
 
-// a selected error above 16,000,000
-pub const REFUSED_ERROR: u8 = 7;
+pub const REFUSED_FREQUENCY: u8 = Refusal::Frequency as u8;
 
-// selected status above 4
-pub const REFUSED_STATUS: u8 = 8;
+pub const REFUSED_ERROR: u8 = Refusal::Error as u8;
 
-// selected time constant above 4
-pub const REFUSED_CONSTANT: u8 = 9;
+pub const REFUSED_STATUS: u8 = Refusal::Status as u8;
 
-// bytes end inside a record or event
-pub const REFUSED_ENDED: u8 = 10;
+pub const REFUSED_CONSTANT: u8 = Refusal::Constant as u8;
 
-// a number not in its shortest form, or a fifth byte that says more follows
-pub const REFUSED_FORM: u8 = 11;
+pub const REFUSED_ENDED: u8 = Refusal::Ended as u8;
 
-// unknown record version or event code, or record field out of range
-pub const REFUSED_FIELD: u8 = 12;
+pub const REFUSED_FORM: u8 = Refusal::Form as u8;
 
-// bytes after a record's end, or a history above 65,536 bytes
-pub const REFUSED_BEYOND: u8 = 13;
+pub const REFUSED_FIELD: u8 = Refusal::Field as u8;
 
-// lent buffer shorter than what is to be written
-pub const REFUSED_ROOM: u8 = 14;
+pub const REFUSED_BEYOND: u8 = Refusal::Beyond as u8;
 
-// not a label
-pub const REFUSED_LABEL: u8 = 15;
+pub const REFUSED_ROOM: u8 = Refusal::Room as u8;
 
-// a ceiling above 65,536 ticks
-pub const REFUSED_CEILING: u8 = 16;
+pub const REFUSED_LABEL: u8 = Refusal::Label as u8;
 
-// an offset fewer than 64 rollovers after the last accepted one
-pub const REFUSED_SOON: u8 = 17;
+pub const REFUSED_CEILING: u8 = Refusal::Ceiling as u8;
 
-// a place beyond a rig's table
-pub const REFUSED_PLACE: u8 = 18;
+pub const REFUSED_SOON: u8 = Refusal::Soon as u8;
 
-// a table of more than eight clocks
-pub const REFUSED_TABLE: u8 = 19;
+pub const REFUSED_PLACE: u8 = Refusal::Place as u8;
+
+pub const REFUSED_TABLE: u8 = Refusal::Table as u8;
 
 // The same numbers, as one value.
 #[derive(Clone, Copy)]

@@ -1,21 +1,22 @@
-ghost use Rattle.std.specs.Prelude.{◌≡◌};
+ghost use Rattle.std.specs.Prelude.{◌≡◌, ◌≤◌};
 ghost use Rattle.state.specs.Fresh.{fresh_of};
-ghost use Rattle.state.specs.State.{in_range, fresh_clock};
-ghost use Rattle.state.specs.Inner.{first_fields_range, last_fields_range, fields_of_kind};
+ghost use Rattle.state.specs.State.{in_range, fresh_clock, strictly_within};
+ghost use Rattle.state.specs.Inner.{first_fields_range, last_fields_range, of_device, fields_of_kind};
 
-use crate::device::{KIND_256, KIND_1024, RECORDER_256, RECORDER_1024, device_of};
+use crate::device::{Device, KIND_256, KIND_1024, RECORDER_256, RECORDER_1024, device_of};
 use crate::limits::{
     LAST_MICRO, LAST_SECOND, MAX_CONSTANT, MAX_ERROR, MAX_FREQUENCY, MAX_INTERVAL, MAX_OFFSET,
     MIN_FREQUENCY, MIN_OFFSET, PHASE_LOWER_END, PHASE_UPPER_END, TIME_BAD,
 };
 use crate::outcome::Outcome;
-use crate::refusals::REFUSED_STATE;
+use crate::refusal::Refusal;
 use crate::units::{Frequency, Micros, OffsetUnits, PhaseParts, PhaseUnits};
 
 // A clock's state, in the order of document 01's table; document 02's other fields follow it in the order of
-// its requests. Any value of the type may be handed in, sound or not.
+// its requests. Any value of the type may be handed in, sound or not: C and records hand over any bytes, so
+// that flag, status and kind are numbers, and the flag stands beside the interval and not around it.
 #[repr(C)]
-#[derive(Clone, Copy)]
+#[derive(Clone, Copy, Debug, PartialEq, Eq)]
 pub struct Clock {
     // seconds since 1970-01-01T00:00:00Z
     pub seconds: u32,
@@ -71,18 +72,27 @@ fn last_fields_in_range(c: Clock) -> bool
         & (c.status <= TIME_BAD)
 }
 
-// The parts of a phase unit that remainder and leftover lie strictly within, either way.
-const PARTS_256: i32 = RECORDER_256.divisor as i32;
+// Whether a remainder or a leftover lies strictly within the parts of a phase unit, either way.
+fn is_within(parts: u32, p: PhaseParts) -> bool
+    requires { parts ≤ 64 }
+    ensures { result ≡ strictly_within parts p.0 }
+{
+    let end = parts as i32;
+    (-end < p.0) & (p.0 < end)
+}
 
-const MINUS_PARTS_256: i32 = -PARTS_256;
+// What depends on the kind, in the ranges of its device.
+fn in_ranges_of(d: Device, a: PhaseUnits, remainder: PhaseParts, leftover: PhaseParts) -> bool
+    requires { d.divisor ≤ 64 }
+    ensures { result ≡ of_device d a.0 remainder.0 leftover.0 }
+{
+    ((d.least.0 <= a.0) & (a.0 <= d.most.0))
+        & is_within(d.divisor, remainder)
+        & is_within(d.divisor, leftover)
+}
 
-const PARTS_1024: i32 = RECORDER_1024.divisor as i32;
-
-const MINUS_PARTS_1024: i32 = -PARTS_1024;
-
-// The kind, and by it the adjustment, the remainder and the leftover. A branch on the kind, and its own ends
-// as constants, take fewer instructions than ends that are chosen; and one branch for the three fewer than
-// one for each.
+// The kind, and what depends on it. A branch on the kind, and its own ends as constants, take fewer
+// instructions than ends that are chosen; and one branch for the three fewer than one for each.
 fn fields_of_kind_in_range(
     kind: u8,
     a: PhaseUnits,
@@ -92,16 +102,8 @@ fn fields_of_kind_in_range(
     ensures { result ≡ fields_of_kind kind a.0 remainder.0 leftover.0 }
 {
     match kind {
-        KIND_256 => {
-            ((RECORDER_256.least.0 <= a.0) & (a.0 <= RECORDER_256.most.0))
-                & ((MINUS_PARTS_256 < remainder.0) & (remainder.0 < PARTS_256))
-                & ((MINUS_PARTS_256 < leftover.0) & (leftover.0 < PARTS_256))
-        }
-        KIND_1024 => {
-            ((RECORDER_1024.least.0 <= a.0) & (a.0 <= RECORDER_1024.most.0))
-                & ((MINUS_PARTS_1024 < remainder.0) & (remainder.0 < PARTS_1024))
-                & ((MINUS_PARTS_1024 < leftover.0) & (leftover.0 < PARTS_1024))
-        }
+        KIND_256 => in_ranges_of(RECORDER_256, a, remainder, leftover),
+        KIND_1024 => in_ranges_of(RECORDER_1024, a, remainder, leftover),
         _ => false,
     }
 }
@@ -127,15 +129,9 @@ pub fn fresh(kind: u8) -> Outcome
     ensures { result ≡ fresh_of kind }
 {
     if KIND_1024 < kind {
-        return Outcome {
-            refusal: REFUSED_STATE,
-            clock: fresh_of(KIND_256),
-        };
+        return Outcome::refused(fresh_of(KIND_256), Refusal::State);
     }
-    Outcome {
-        refusal: 0,
-        clock: fresh_of(kind),
-    }
+    Outcome::accepted(fresh_of(kind))
 }
 
 fn fresh_of(kind: u8) -> Clock

@@ -118,7 +118,7 @@ larger_five n a h = by (ltb n 65535)
     by false = h
 
 module _ {moves : Moves} {c : Clock} (rules : RulesGrow c) (w : Grows moves c (λ n. min 65535 (n + 1)) larger)
-    (last : (a : ℕ) → LastOf moves c a a) (lastByRules : (a : ℕ) → LastOf after_event c a (max a 7))
+    (last : (a : ℕ) → LastOf moves c a a) (last_by_rules : (a : ℕ) → LastOf after_event c a (max a 7))
     (d : CarriedIsAfresh moves) where
   abbrev count : ℕ
   count = count_after (λ n. min 65535 (n + 1)) 65535 0
@@ -138,7 +138,7 @@ module _ {moves : Moves} {c : Clock} (rules : RulesGrow c) (w : Grows moves c (�
 
   right_largest : largest_in 0 (carried_by after_event c events empty_summary) ≡ max (largest (λ n a. max a 5)) 7
   right_largest =
-      ap (largest_in 0) (many rules 65535 (once_more 7 []) 0 0) ∙ (rw (full) (lastByRules (largest (λ n a. max a 5))))
+      ap (largest_in 0) (many rules 65535 (once_more 7 []) 0 0) ∙ (rw (full) (last_by_rules (largest (λ n a. max a 5))))
 
   pub stops_not : ⊥
   stops_not =

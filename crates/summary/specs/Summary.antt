@@ -63,10 +63,9 @@ abbrev pub after_event : Clock → Event → Summary → Summary
 after_event c (Call e) m = after_call c e m
 after_event c (CatchUp ceiling stop) m = m
 
--- the arrays of a summary were lent to an event on the clock c, and now hold the summary after it
-abbrev pub MovedInPlace : Clock → Event → (counts largest counts' largest' : List ℕ) → Type 0
-MovedInPlace c e counts largest counts' largest' =
-    summary_of counts' largest' ≡ after_event c e (summary_of counts largest)
+-- a summary was lent to an event on the clock c, and now is the summary after it
+abbrev pub MovedInPlace : Clock → Event → (m m' : Summary) → Type 0
+MovedInPlace c e m m' = m' ≡ after_event c e m
 
 -- an event's answer, and the summary after it
 abbrev pub summed_of : Clock → Event → Summary → Summed

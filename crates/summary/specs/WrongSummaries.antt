@@ -215,7 +215,7 @@ pub record WrongSummariesOf (kind : ℕ) : Type 0 where
       WrongAt (on_kind kind past_the_day) (at kind 86400) (two_offsets (pos 5) 900 (pos 7))
       (holding 1 1 7)
       (cell 0 1 5 (holding 1 1 7))
-  pub nextTick :
+  pub next_tick :
       WrongAt (on_kind kind after_a_tick) (at_end_of kind 899) (offset (pos 5)) (holding 1 1 5) (holding 0 1 5)
   pub sixty :
       WrongAt (on_kind kind sixty_next_day) (inserted kind) (two_offsets (pos 5) 86399 (pos 7))
@@ -233,13 +233,13 @@ pub record WrongSummariesOf (kind : ℕ) : Type 0 where
       WrongAt (on_kind kind keeps_first) (at kind 0) (two_offsets (pos 5) 0 (pos 7))
       (holding 0 2 5)
       (holding 0 2 7)
-  pub bySetting :
+  pub by_setting :
       ClearedAt kind (cleared_by setting) setting (tick ∷ reading ∷ catch_up ∷ none ∷ too_soon ∷ [])
-  pub byTick :
+  pub by_tick :
       ClearedAt kind (cleared_by tick) tick (reading ∷ catch_up ∷ none ∷ too_soon ∷ setting ∷ [])
-  pub byCatchUp :
+  pub by_catch_up :
       ClearedAt kind (cleared_by catch_up) catch_up (tick ∷ reading ∷ none ∷ too_soon ∷ setting ∷ [])
-  pub byReading :
+  pub by_reading :
       ClearedAt kind (cleared_by reading) reading (tick ∷ catch_up ∷ none ∷ too_soon ∷ setting ∷ [])
   pub by_other : ClearedAt kind others_clear none (tick ∷ reading ∷ catch_up ∷ setting ∷ [])
   pub by_refused : ClearedAt kind others_clear too_soon (tick ∷ reading ∷ catch_up ∷ setting ∷ [])

@@ -2,106 +2,38 @@
 use mathlib.Core.Path.{sym}
 use Rattle.number.specs.Sequence.{then}
 use Rattle.history.specs.Event.{request_at}
+use Rattle.history.proofs.Refused.{passed_on}
 use Rattle.history.proofs.request_at.Goals as goal
 
-pub returns-in_default : goal.returns-in_default
+pub returns-in_err-mode : goal.returns-in_err-mode
 unfolding request_at then
-returns-in_default c = simp (c.refusal_of.ensures, c.in_default.is, sym c.in_default.ensures)
+returns-in_err-mode c = passed_on _ _ c.from_residual.ensures.1 (simp (sym c.in_err-mode.ensures))
 
-pub returns-in_default-d1 : goal.returns-in_default-d1
+pub returns-in_err-offset : goal.returns-in_err-offset
 unfolding request_at then
-returns-in_default-d1 c =
-    simp (
-      c.refusal_of-in_default-d1.ensures,
-      c.in_default-d1.is,
-      sym c.in-Value.ensures,
-      sym c.field_bits-bits.ensures,
-      sym c.in_default-d1.ensures,
-    )
+returns-in_err-offset c = passed_on _ _ c.from_residual-in_err-offset.ensures.1 (simp (sym c.in_ok-mode.ensures, sym c.in_err-offset.ensures))
 
-pub returns-in_default-d2 : goal.returns-in_default-d2
+pub returns-in_err-frequency : goal.returns-in_err-frequency
 unfolding request_at then
-returns-in_default-d2 c =
-    simp (
-      c.refusal_of-in_default-d2.ensures,
-      c.in_default-d2.is,
-      sym c.in-Value.ensures,
-      sym c.field_bits-bits.ensures,
-      sym c.in-Value-d1.ensures,
-      sym c.in_default-d2.ensures,
-    )
+returns-in_err-frequency c = passed_on _ _ c.from_residual-in_err-frequency.ensures.1 (simp (sym c.in_ok-mode.ensures, sym c.in_ok-offset.ensures, sym c.in_err-frequency.ensures))
 
-pub returns-in_default-d3 : goal.returns-in_default-d3
+pub returns-in_err-maxerror : goal.returns-in_err-maxerror
 unfolding request_at then
-returns-in_default-d3 c =
-    simp (
-      c.refusal_of-in_default-d3.ensures,
-      c.in_default-d3.is,
-      sym c.in-Value.ensures,
-      sym c.field_bits-bits.ensures,
-      sym c.in-Value-d1.ensures,
-      sym c.in-Value-d2.ensures,
-      sym c.in_default-d3.ensures,
-    )
+returns-in_err-maxerror c = passed_on _ _ c.from_residual-in_err-maxerror.ensures.1 (simp (sym c.in_ok-mode.ensures, sym c.in_ok-offset.ensures, sym c.in_ok-frequency.ensures, sym c.in_err-maxerror.ensures))
 
-pub returns-in_default-d4 : goal.returns-in_default-d4
+pub returns-in_err-esterror : goal.returns-in_err-esterror
 unfolding request_at then
-returns-in_default-d4 c =
-    simp (
-      c.refusal_of-in_default-d4.ensures,
-      c.in_default-d4.is,
-      sym c.in-Value.ensures,
-      sym c.field_bits-bits.ensures,
-      sym c.in-Value-d1.ensures,
-      sym c.in-Value-d2.ensures,
-      sym c.in-Value-d3.ensures,
-      sym c.in_default-d4.ensures,
-    )
+returns-in_err-esterror c = passed_on _ _ c.from_residual-in_err-esterror.ensures.1 (simp (sym c.in_ok-mode.ensures, sym c.in_ok-offset.ensures, sym c.in_ok-frequency.ensures, sym c.in_ok-maxerror.ensures, sym c.in_err-esterror.ensures))
 
-pub returns-in_default-d5 : goal.returns-in_default-d5
+pub returns-in_err-status : goal.returns-in_err-status
 unfolding request_at then
-returns-in_default-d5 c =
-    simp (
-      c.refusal_of-in_default-d5.ensures,
-      c.in_default-d5.is,
-      sym c.in-Value.ensures,
-      sym c.field_bits-bits.ensures,
-      sym c.in-Value-d1.ensures,
-      sym c.in-Value-d2.ensures,
-      sym c.in-Value-d3.ensures,
-      sym c.in-Value-d4.ensures,
-      sym c.in_default-d5.ensures,
-    )
+returns-in_err-status c = passed_on _ _ c.from_residual-in_err-status.ensures.1 (simp (sym c.in_ok-mode.ensures, sym c.in_ok-offset.ensures, sym c.in_ok-frequency.ensures, sym c.in_ok-maxerror.ensures, sym c.in_ok-esterror.ensures, sym c.in_err-status.ensures))
 
-pub returns-in_default-d6 : goal.returns-in_default-d6
+pub returns-in_err-constant : goal.returns-in_err-constant
 unfolding request_at then
-returns-in_default-d6 c =
-    simp (
-      c.refusal_of-in_default-d6.ensures,
-      c.in_default-d6.is,
-      sym c.in-Value.ensures,
-      sym c.field_bits-bits.ensures,
-      sym c.in-Value-d1.ensures,
-      sym c.in-Value-d2.ensures,
-      sym c.in-Value-d3.ensures,
-      sym c.in-Value-d4.ensures,
-      sym c.in-Value-d5.ensures,
-      sym c.in_default-d6.ensures,
-    )
+returns-in_err-constant c = passed_on _ _ c.from_residual-in_err-constant.ensures.1 (simp (sym c.in_ok-mode.ensures, sym c.in_ok-offset.ensures, sym c.in_ok-frequency.ensures, sym c.in_ok-maxerror.ensures, sym c.in_ok-esterror.ensures, sym c.in_ok-status.ensures, sym c.in_err-constant.ensures))
 
 pub returns : goal.returns
 unfolding request_at then
 returns c =
-    simp (
-      c.called.ensures,
-      c.offset_of-offset.ensures,
-      c.frequency_of-frequency.ensures,
-      sym c.in-Value.ensures,
-      sym c.field_bits-bits.ensures,
-      sym c.in-Value-d1.ensures,
-      sym c.in-Value-d2.ensures,
-      sym c.in-Value-d3.ensures,
-      sym c.in-Value-d4.ensures,
-      sym c.in-Value-d5.ensures,
-      sym c.in-Value-d6.ensures,
-    )
+    simp (c.called.ensures, c.offset_of.ensures, c.frequency_of.ensures, sym c.in_ok-mode.ensures, sym c.in_ok-offset.ensures, sym c.in_ok-frequency.ensures, sym c.in_ok-maxerror.ensures, sym c.in_ok-esterror.ensures, sym c.in_ok-status.ensures, sym c.in_ok-constant.ensures)

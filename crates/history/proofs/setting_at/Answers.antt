@@ -2,16 +2,18 @@
 use mathlib.Core.Path.{sym}
 use Rattle.number.specs.Sequence.{then}
 use Rattle.history.specs.Event.{setting_at}
+use Rattle.history.proofs.Refused.{passed_on}
 use Rattle.history.proofs.setting_at.Goals as goal
 
-pub returns-in_default : goal.returns-in_default
+pub returns-in_err-seconds : goal.returns-in_err-seconds
 unfolding setting_at then
-returns-in_default c = simp (c.refusal_of.ensures, c.in_default.is, sym c.in_default.ensures)
+returns-in_err-seconds c = passed_on _ _ c.from_residual.ensures.1 (simp (sym c.in_err-seconds.ensures))
 
-pub returns-in_default-d1 : goal.returns-in_default-d1
+pub returns-in_err-micros : goal.returns-in_err-micros
 unfolding setting_at then
-returns-in_default-d1 c = simp (c.refusal_of-in_default-d1.ensures, c.in_default-d1.is, sym c.in-Value.ensures, sym c.in_default-d1.ensures)
+returns-in_err-micros c =
+    passed_on _ _ c.from_residual-in_err-micros.ensures.1 (simp (sym c.in_ok-seconds.ensures, sym c.in_err-micros.ensures))
 
 pub returns : goal.returns
 unfolding setting_at then
-returns c = simp (c.called.ensures, sym c.in-Value.ensures, sym c.in-Value-d1.ensures)
+returns c = simp (c.called.ensures, sym c.in_ok-seconds.ensures, sym c.in_ok-micros.ensures)

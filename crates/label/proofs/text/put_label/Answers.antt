@@ -1,19 +1,37 @@
--- `label::text::put_label` meets its contract: the date stands in the first eleven bytes, the time in the
--- next nine.
-use Rattle.std.proofs.Common.{ℕ, ◌/◌, ◌%◌, List, ◌++◌, drop, ap, ◌∙◌, drop-drop}
-use Rattle.state.specs.Units.{seconds_per_day}
-use Rattle.calendar.specs.Calendar.{date_of}
-use Rattle.label.specs.Label.{label_of, seconds_per_minute, minutes_per_hour, hours_per_day, seconds_per_hour}
-use Rattle.label.specs.Inner.{date_text, time_text}
-use Rattle.label.proofs.Placed.{after}
+-- `label::text::put_label` meets its contract: its parts are the century, the year in it with the month and the
+-- day, and the time, with a mark after each of the last two.
+use Rattle.std.proofs.Common.{◌≡◌, ◌*◌, ◌/◌, ◌%◌, ◌-◌, ◌∙◌, arith, rules}
+use Rattle.label.specs.Label.{label_of}
+use Rattle.label.proofs.Digits.{tens_of_year, units_of_year}
+use Rattle.label.proofs.Parts.{ranges_of, century_of}
+use Rattle.label.proofs.Placed.{filled}
 use Rattle.label.proofs.text.put_label.Goals as goal
+
+pub two_digits-requires : goal.two_digits-requires
+two_digits-requires c =
+    omega (arith, (ranges_of c.args.seconds (search rules) c.date_of_second-date.ensures).year)
+
+pub overflow_sub-year : goal.overflow_sub-year
+overflow_sub-year c =
+    omega (arith, century_of c.args.seconds (search rules) c.date_of_second-date.ensures)
+
+pub marked_pairs-requires : goal.marked_pairs-requires
+marked_pairs-requires c =
+    let r = ranges_of c.args.seconds (search rules) c.date_of_second-date.ensures in (
+      omega (arith, century_of c.args.seconds (search rules) c.date_of_second-date.ensures),
+      omega (arith, r.month),
+      omega (arith, r.day),
+      omega arith,
+    )
 
 pub returns : goal.returns
 unfolding label_of
 returns c =
-    let s = c.args.seconds in
-    let out = c.args.out.now in
-    let date = ap (λ (x : List ℕ). x ++ drop 11 out) (c.copy_from_slice.ensures.after ∙ c.date_text-date.ensures) in
-    let time = c.copy_from_slice-2.ensures.after ∙ c.time_text-time.ensures in
-    rw (drop-drop 9 11 out) at
-    (after (date_text (date_of (s / seconds_per_day))) (time_text (s / seconds_per_hour % hours_per_day) (s / seconds_per_minute % minutes_per_hour) (s % seconds_per_minute)) (drop 11 out) date time)
+    let y = c.date_of_second-date.result.year in
+    let century = century_of c.args.seconds (search rules) c.date_of_second-date.ensures in
+    let in_century : y - 100 * (y * 5243 / 524288) ≡ y % 100 = omega (arith, century) in
+    rw (in_century, tens_of_year y, units_of_year y, century, c.date_of_second-date.ensures) at
+    (filled c.args.out.now _ _ _ _ _ _ _ (search rules)
+    (c.copy_from_slice.ensures.after ∙ c.two_digits.ensures)
+    (c.copy_from_slice-2.ensures.after ∙ c.marked_pairs.ensures)
+    (c.copy_from_slice-3.ensures.after ∙ c.time_text.ensures))

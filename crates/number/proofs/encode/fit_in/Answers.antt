@@ -14,20 +14,20 @@ returns-then-ns-room c =
 
 pub returns-then-left-k : goal.returns-then-left-k
 returns-then-left-k c =
-    let i = c.loop-i.i in
+    let i = c.loop-n.n-index in
     let a = c.args in
     let ns = a.ns.now in
-    sym (lt-leb (length (bytes_of_all ns)) a.room (omega (arith, sizes_at ns i c.loop-i-test.true)))
+    sym (lt-leb (length (bytes_of_all ns)) a.room (omega (arith, sizes_at ns i c.loop-n-test.true)))
 
-pub loop-i-preserved : goal.loop-i-preserved
-loop-i-preserved c =
-    let i = c.loop-i.i in
+pub loop-n-preserved : goal.loop-n-preserved
+loop-n-preserved c =
+    let i = c.loop-n.n-index in
     let ns = c.args.ns.now in
-    omega (arith, sizes_at ns i c.loop-i-test.true)
+    omega (arith, sizes_at ns i c.loop-n-test.true)
 
 pub returns : goal.returns
 returns c =
-    let i = c.loop-i.i in
+    let i = c.loop-n.n-index in
     let a = c.args in
     let ns = a.ns.now in
-    sym (le-leb (length (bytes_of_all ns)) a.room (omega (arith, ap length (all_end ns i c.loop-i-test.false))))
+    sym (le-leb (length (bytes_of_all ns)) a.room (omega (arith, ap length (all_end ns i c.loop-n-test.false))))

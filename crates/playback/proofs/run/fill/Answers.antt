@@ -12,7 +12,7 @@ use Rattle.playback.proofs.run.fill.Goals as goal
 pub returns-then-run : goal.returns-then-run
 returns-then-run c =
     let a = c.args in
-    put_ended a.bytes.now a.run a.out.now c.if-run.true
+    rw c.filled.ensures (put_ended a.bytes.now a.run a.out.now c.if-run.true)
 
 pub returns-then-out-lt-LONGEST_LINE : goal.returns-then-out-lt-LONGEST_LINE
 returns-then-out-lt-LONGEST_LINE c =
@@ -25,4 +25,4 @@ returns-then-bytes-gt-LONGEST_HISTORY c =
     let enough = c.if-out-lt-LONGEST_LINE.false in
     let a = c.args in
     let x = stepped (step_long a.bytes.now a.run going c.if-bytes-gt-LONGEST_HISTORY.true) refl c.put_log-length.ensures (log_small 13 longest_history (omega arith) (omega arith)) in
-    made_all a.bytes.now a.run a.out.now going enough (made_one a.bytes.now going (omega (arith, enough)) x) (inl refl) refl
+    made_all a.bytes.now a.run a.out.now going enough (made_one a.bytes.now going (omega (arith, enough)) x) (inl refl) c.filled-then-bytes-gt-LONGEST_HISTORY.ensures

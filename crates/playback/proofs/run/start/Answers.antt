@@ -5,4 +5,4 @@ use Rattle.playback.proofs.run.start.Goals as goal
 
 pub returns : goal.returns
 unfolding fresh_of
-returns c = rw (c.fresh.ensures, c.empty-summary.ensures.value)
+returns c = rw (c.fresh.ensures, c.empty.ensures.value)

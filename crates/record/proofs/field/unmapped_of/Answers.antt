@@ -14,7 +14,7 @@ small : (c : After-unmap) → SFits w32 (unmapped c.args.n)
 small c = unmapped_fits {w = w32} _ (omega arith)
 
 same : (c : After-unmap) → to_z w64 (of_z w64 c.unmap.result) ≡ unmapped c.args.n
-same c = rw c.unmap.ensures (to_z-of_z (widen (small c)))
+same c = rw (c.unmap.ensures, c.from.ensures) (to_z-of_z (widen (small c)))
 
 pub overflow_cast-result : goal.overflow_cast-result
 overflow_cast-result c = rw (same (goal.at.overflow_cast-result c).After-unmap) (small (goal.at.overflow_cast-result c).After-unmap)

@@ -5,8 +5,8 @@ use Rattle.state.proofs.state.fresh.Goals as goal
 
 pub returns-then-kind-gt-KIND_1024 : goal.returns-then-kind-gt-KIND_1024
 unfolding fresh_of
-returns-then-kind-gt-KIND_1024 c = simp (c.fresh_of.ensures, lt-leb _ _ c.if-kind-gt-KIND_1024.true)
+returns-then-kind-gt-KIND_1024 c = simp (c.refused.ensures, c.fresh_of.ensures, lt-leb _ _ c.if-kind-gt-KIND_1024.true)
 
 pub returns : goal.returns
 unfolding fresh_of
-returns c = simp (c.fresh_of-2.ensures, le-leb _ _ c.if-kind-gt-KIND_1024.false)
+returns c = simp (c.accepted.ensures, c.fresh_of-2.ensures, le-leb _ _ c.if-kind-gt-KIND_1024.false)

@@ -1,8 +1,7 @@
 -- `summary::counting::count_call`: an accepted request with an offset adds it, and nothing else does.
-use mathlib.Core.Path.{◌≡◌, ◌∙◌, ap}
-use mathlib.Core.Bool.{true, false}
+use mathlib.Core.Path.{◌≡◌, ap}
+use mathlib.Core.Bool.{true}
 use native.Mathlib.Omega.{arith}
-use lib.IntN.{nat_abs}
 use borrow.Author.Tests.{eq-eqb}
 use Rattle.integers.proofs.Ranges.{parts_within}
 use Rattle.state.specs.State.{within, greatest_offset}
@@ -13,9 +12,6 @@ use Rattle.request.specs.declared.request.Request.{Request}
 use Rattle.request.proofs.RequestCases.{RequestCase, done, refused, request_case}
 use Rattle.event.specs.Event.{answer_of}
 use Rattle.event.specs.declared.event.Call.TheVariants as call
-use Rattle.bounds.specs.Calls.{takes_offset}
-use Rattle.summary.specs.Summary.{quarter_of, with_offset, after_call}
-use Rattle.summary.specs.declared.cells.Summary.{Summary}
 use Rattle.summary.proofs.counting.count_call.Goals as goal
 
 module _ (c : Clock) (r : Request) (z : (answer_of c (call.Request r)).refusal ≡ 0) where
@@ -27,16 +23,6 @@ module _ (c : Clock) (r : Request) (z : (answer_of c (call.Request r)).refusal �
           let p = a.offset s in
           parts_within greatest_offset greatest_offset r.offset.0 p.0 p.1
       by (refused n e h) = absurd (omega (arith, z, ap (λ (o : Outcome). o.refusal) e))
-
-  takes : takes_offset c r ≡ selects_offset r
-  takes = simp (eq-eqb (answer_of c (call.Request r)).refusal 0 z)
-
-  after_offset : (m : Summary) → selects_offset r ≡ true
-      → after_call c (call.Request r) m ≡ with_offset (quarter_of c.seconds) (nat_abs r.offset.0) m
-  after_offset m e = let t = takes ∙ e in simp t
-
-  after_none : (m : Summary) → selects_offset r ≡ false → after_call c (call.Request r) m ≡ m
-  after_none m e = let t = takes ∙ e in simp t
 
 pub size_of-requires : goal.size_of-requires
 size_of-requires c =
