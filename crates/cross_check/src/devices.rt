@@ -1,9 +1,9 @@
 // Both recorders, a second time, from the rates of their timers: what falls to a second is divided among its
-// ticks, in units of the phase. Kind 0 is the recorder of 256 Hz, kind 1 that of 1,024 Hz. Any other number
-// is refused before its rate matters.
+// ticks, in units of the phase. Kind 0 is the recorder of 256 Hz, kind 1 that of 1,024 Hz. A kind is
+// a number and not an enum: any may come, and what is neither is refused before its rate matters.
 ghost use Rattle.std.specs.Prelude.{◌<◌};
 
-use crate::signed::{Signed, mapped, pick, plus, sum, unmapped};
+use crate::signed::Signed;
 
 // A microsecond and a second in units of the phase, 2^-28 us.
 pub(crate) const PHASE_MICRO: u64 = 268435456;
@@ -44,10 +44,7 @@ pub(crate) fn whole_micros(kind: u64) -> u64 {
 }
 
 fn beyond(kind: u64) -> Signed {
-    Signed {
-        negative: false,
-        size: to_tick(kind, PHASE_SECOND) % PHASE_MICRO,
-    }
+    Signed::new(false, to_tick(kind, PHASE_SECOND) % PHASE_MICRO)
 }
 
 // What a share of so many units makes in a tick, and a frequency: each loses its own fraction.
@@ -68,59 +65,42 @@ pub(crate) fn parts(kind: u64) -> u64
 
 // The fraction that a frequency loses in a tick, in parts. Its number is mapped, as the frequency is.
 pub(crate) fn lost(kind: u64, frequency: u64) -> u64 {
-    let f = unmapped(frequency);
+    let f = Signed::unmapped(frequency);
     let second = f.size % 4294967296 * PHASE_FREQUENCY;
-    mapped(f.negative, second % rate(kind) / PHASE_FREQUENCY)
+    Signed::new(f.negative, second % rate(kind) / PHASE_FREQUENCY).mapped()
 }
 
 // So many units of the phase in parts.
 pub(crate) fn in_parts(kind: u64, v: Signed) -> Signed {
-    let n = v.size % 4294967296;
-    Signed {
-        negative: v.negative,
-        size: pick(kind == 0, n * 16, n * 64),
-    }
+    Signed::new(v.negative, v.size.saturating_mul(parts(kind)))
 }
 
 // The adjustment that lies so far from that of a clock with no share and no frequency. Its number is mapped,
 // as the distance is.
 pub(crate) fn adjustment_at(kind: u64, distance: u64) -> u64 {
-    let a = sum(beyond(kind), unmapped(distance));
-    mapped(a.negative, a.size)
+    (beyond(kind) + Signed::unmapped(distance)).mapped()
 }
 
-// The adjustment of a share and a frequency.
-pub(crate) fn adjustment_of(kind: u64, negative: bool, share: u64, frequency: u64) -> u64 {
-    let f = unmapped(frequency);
-    let slewed = Signed {
-        negative: negative,
-        size: slew(kind, share),
-    };
-    let drifted = Signed {
-        negative: f.negative,
-        size: drift(kind, f.size),
-    };
-    let distance = sum(slewed, drifted);
-    adjustment_at(kind, mapped(distance.negative, distance.size))
+// The adjustment of a share and a frequency, whose number is mapped.
+pub(crate) fn adjustment_of(kind: u64, share: Signed, frequency: u64) -> u64 {
+    let f = Signed::unmapped(frequency);
+    let slewed = Signed::new(share.negative, slew(kind, share.size));
+    let drifted = Signed::new(f.negative, drift(kind, f.size));
+    adjustment_at(kind, (slewed + drifted).mapped())
 }
 
 // How far the largest share and the largest frequency lead, to either side.
 pub(crate) fn farthest(kind: u64) -> u64 {
-    plus(slew(kind, LARGEST_SHARE), drift(kind, LARGEST_FREQUENCY))
+    slew(kind, LARGEST_SHARE).saturating_add(drift(kind, LARGEST_FREQUENCY))
 }
 
 // Whether an adjustment lies no farther than that.
 pub(crate) fn reached(kind: u64, adjustment: u64) -> bool {
-    let middle = beyond(kind);
-    let back = Signed {
-        negative: true,
-        size: middle.size,
-    };
-    let distance = sum(unmapped(adjustment), back);
+    let distance = Signed::unmapped(adjustment) - beyond(kind);
     distance.size <= farthest(kind)
 }
 
 // An end of the adjustment's range.
 pub(crate) fn end_of(kind: u64, lower: bool) -> u64 {
-    adjustment_at(kind, mapped(lower, farthest(kind)))
+    adjustment_at(kind, Signed::new(lower, farthest(kind)).mapped())
 }

@@ -21,13 +21,14 @@ mod numbers;
 mod quarters;
 mod random;
 mod records;
+mod refusals;
 mod replay;
 mod rules;
 mod signed;
 mod summaries;
 
 use crate::calls::Verdict;
-use crate::signed::{least, minus, pick, plus};
+use crate::refusals::number_of;
 use std::io;
 use std::io::ErrorKind;
 use std::process::ExitCode;
@@ -48,284 +49,195 @@ const OWED: u64 = 1090583;
 // interval moves; and the fewest cases that whole units decide, in either direction.
 const FEWEST: u64 = 1000;
 
-// How many groups there are.
-const GROUPS: usize = 24;
-
-// Their names, of sixteen bytes each, in the order of the lines.
-const NAMES: [u8; 384] = *b"ticks           \
-settings        \
-requests        \
-readings        \
-catch-ups       \
-long catch-ups  \
-lists of events \
-many ticks      \
-units carried   \
-kinds           \
-numbers read    \
-numbers written \
-numbers mapped  \
-labels written  \
-labels read     \
-days            \
-records written \
-records read    \
-old records read\
-odd kinds read  \
-odd parts read  \
-summaries       \
-histories       \
-long histories  ";
-
-// How many cases each has.
-fn cases_of(group: u64) -> u64 {
-    match group {
-        0 => 100000,
-        1 => 20000,
-        2 => 100000,
-        3 => 10000,
-        4 => 30000,
-        5 => 200,
-        6 => 400,
-        7 => 10000,
-        8 => 60000,
-        9 => 256,
-        10 => 100000,
-        11 => 50000,
-        12 => 10000,
-        13 => 30000,
-        14 => 120000,
-        15 => 49711,
-        16 => 50000,
-        17 => 100000,
-        18 => 100000,
-        19 => 40000,
-        20 => 40000,
-        21 => 30000,
-        22 => 40000,
-        _ => 16,
-    }
-}
-
-// One case of a group.
-fn run_case(group: u64, case: u64) -> Verdict {
-    match group {
-        4 => calls::catch_up(case),
-        5 => calls::long_catch_up(case),
-        6 => calls::list(case),
-        7 => calls::many_ticks(case),
-        8 => calls::edge_ticks(case),
-        9 => calls::start(case),
-        10 => numbers::read(case),
-        11 => numbers::write(case),
-        12 => numbers::map(case),
-        13 => labels::write(case),
-        14 => labels::read(case),
-        15 => labels::day(case),
-        16 => records::write(case),
-        17 => records::read(case),
-        18 => records::read_old(case),
-        19 => records::read_odd_kind(case),
-        20 => records::read_odd_parts(case),
-        21 => summaries::list(case),
-        22 => histories::replay(case),
-        23 => histories::long(case),
-        _ => calls::event_on_any(case, group),
-    }
-}
-
-// A text and a number behind it.
-fn tell(rt: &impl Print, text: &[u8], n: u64) -> io::Result<()> {
-    rt.write_all(text)?;
-    rt.print(n)
-}
-
-fn end_line(rt: &impl Print) -> io::Result<()> {
-    rt.write_all(b"\n")
-}
-
-fn tell_name(rt: &impl Print, group: u64) -> io::Result<()> {
-    let names = NAMES;
-    let at = (group % GROUPS as u64 * 16) as usize;
-    rt.write_all(&names[at..at + 16])
-}
-
-fn tell_case(rt: &impl Print, group: u64, case: u64) -> io::Result<()> {
-    tell_name(rt, group)?;
-    tell(rt, b" differs: ", case)?;
-    end_line(rt)
-}
-
-fn tell_answer(rt: &impl Print, number: u64, times: u64) -> io::Result<()> {
-    if times != 0 {
-        tell(rt, b", ", number)?;
-        tell(rt, b": ", times)?;
-    }
-    Ok(())
-}
-
-// How often each answer was given.
-fn tell_answers(rt: &impl Print, met: &[u64; ANSWERS]) -> io::Result<()> {
-    let mut k: usize = 0;
-    while k < ANSWERS {
-        tell_answer(rt, k as u64, met[k])?;
-        k += 1;
-    }
-    Ok(())
-}
-
-// What a group came to, or all of them: cases compared and those that differ, groups without such a case, the
-// offsets of lists, and the cases that whole units decide.
-#[derive(Clone, Copy)]
+// What a group came to, or all of them: cases compared and those that differ, groups without and with such a
+// case, the offsets of lists, and the cases that whole units decide.
+#[derive(Clone, Copy, Default)]
 struct Tally {
     compared: u64,
     differ: u64,
     agreeing: u64,
+    differing: u64,
     offsets: u64,
     up: u64,
     down: u64,
 }
 
-fn nothing() -> Tally {
-    Tally {
-        compared: 0,
-        differ: 0,
-        agreeing: 0,
-        offsets: 0,
-        up: 0,
-        down: 0,
-    }
-}
-
-fn joined(a: Tally, b: Tally) -> Tally {
-    Tally {
-        compared: plus(a.compared, b.compared),
-        differ: plus(a.differ, b.differ),
-        agreeing: plus(a.agreeing, b.agreeing),
-        offsets: plus(a.offsets, b.offsets),
-        up: plus(a.up, b.up),
-        down: plus(a.down, b.down),
-    }
-}
-
-// The counts after one more case. Of a group's cases that differ the first are told one by one.
-fn noted(
-    rt: &impl Print,
-    group: u64,
-    case: u64,
-    v: Verdict,
-    met: &mut [u64; ANSWERS],
-    t: Tally,
-) -> io::Result<Tally> {
-    let k = (v.refusal % ANSWERS as u64) as usize;
-    met[k] = plus(met[k], 1);
-    match pick(v.same | (TOLD <= t.differ), 0, 1) {
-        0 => (),
-        _ => tell_case(rt, group, case)?,
-    }
-    Ok(joined(
-        t,
-        Tally {
+impl Tally {
+    // One case more of a group.
+    fn count(&mut self, v: Verdict) {
+        self.add(Tally {
             compared: 1,
-            differ: pick(v.same, 0, 1),
-            agreeing: 0,
+            differ: u64::from(!v.same),
             offsets: v.offsets,
-            up: v.up,
-            down: v.down,
-        },
-    ))
+            up: u64::from(v.up),
+            down: u64::from(v.down),
+            ..Tally::default()
+        });
+    }
+
+    fn add(&mut self, other: Tally) {
+        self.compared = self.compared.saturating_add(other.compared);
+        self.differ = self.differ.saturating_add(other.differ);
+        self.agreeing = self.agreeing.saturating_add(other.agreeing);
+        self.differing = self.differing.saturating_add(other.differing);
+        self.offsets = self.offsets.saturating_add(other.offsets);
+        self.up = self.up.saturating_add(other.up);
+        self.down = self.down.saturating_add(other.down);
+    }
 }
 
-// A group's line, and what it came to.
-fn told(rt: &impl Print, group: u64, t: Tally, met: &[u64; ANSWERS]) -> io::Result<Tally> {
-    tell_name(rt, group)?;
-    tell(rt, b" compared ", t.compared)?;
-    tell(rt, b" differed ", t.differ)?;
-    tell_answers(rt, met)?;
+// A group's line: its counts, and how often each answer was given.
+fn tell_group(rt: &impl Print, name: &str, t: Tally, met: &[u64; ANSWERS]) -> io::Result<()> {
+    print!(rt; "{name:<16} compared {} differed {}", t.compared, t.differ)?;
+    for (number, times) in met.iter().enumerate() {
+        if *times != 0 {
+            print!(rt; ", {number}: {times}")?;
+        }
+    }
     if t.offsets != 0 {
-        tell(rt, b"; offsets accepted after an earlier one: ", t.offsets)?;
+        print!(rt; "; offsets accepted after an earlier one: {}", t.offsets)?;
     }
-    if plus(t.up, t.down) != 0 {
-        tell(rt, b"; decided by whole units, up: ", t.up)?;
-        tell(rt, b", down: ", t.down)?;
+    if t.up != 0 || t.down != 0 {
+        print!(rt; "; decided by whole units, up: {}, down: {}", t.up, t.down)?;
     }
-    end_line(rt)?;
-    let mut all = t;
-    all.agreeing = pick(t.differ == 0, 1, 0);
-    Ok(all)
+    println!(rt)
 }
 
-// All cases of a group.
-fn run(rt: &impl Print, group: u64) -> io::Result<Tally> {
-    let n = cases_of(group);
+// All cases of a group, each told that differs, up to TOLD of them; and the counts with the group's.
+fn run<F: Fn(u64) -> Verdict>(
+    rt: &impl Print,
+    all: &mut Tally,
+    name: &str,
+    cases: u64,
+    verdict_of: F,
+) -> io::Result<()>
+    requires { F.IsAlwaysCallable verdict_of }
+{
     let mut met = [0u64; ANSWERS];
-    let mut t = nothing();
-    let mut i: u64 = 0;
-    while i < n {
-        t = noted(rt, group, i, run_case(group, i), &mut met, t)?;
-        i += 1;
+    let mut t = Tally::default();
+    for case in 0..cases {
+        let v = verdict_of(case);
+        if !v.same && t.differ < TOLD {
+            println!(rt; "{name:<16} differs: {case}")?;
+        }
+        if let Some(times) = met.get_mut(number_of(v.refusal) as usize) {
+            *times = times.saturating_add(1);
+        }
+        t.count(v);
     }
-    told(rt, group, t, &met)
+    tell_group(rt, name, t, &met)?;
+    t.agreeing = u64::from(t.differ == 0);
+    t.differing = u64::from(t.differ != 0);
+    all.add(t);
+    Ok(())
 }
 
 // Too few of something: how many there were, and of how many.
-fn tell_few(rt: &impl Print, what: &[u8], n: u64, of: u64) -> io::Result<()> {
-    rt.write_all(b"cross_check: TOO FEW ")?;
-    tell(rt, what, n)?;
-    tell(rt, b" of ", of)?;
-    end_line(rt)
-}
-
-fn tell_agreement(rt: &impl Print, t: Tally) -> io::Result<()> {
-    tell(rt, b"cross_check: ", t.compared)?;
-    tell(rt, b" of ", OWED)?;
-    tell(rt, b" cases in ", t.agreeing)?;
-    rt.write_all(b" groups, 0 differ: the two agree\n")
-}
-
-fn tell_difference(rt: &impl Print, t: Tally) -> io::Result<()> {
-    tell(rt, b"cross_check: DIFFER in ", t.differ)?;
-    tell(rt, b" of ", t.compared)?;
-    tell(rt, b" cases, in groups: ", minus(GROUPS as u64, t.agreeing))?;
-    end_line(rt)
+fn tell_few(rt: &impl Print, what: &str, n: u64, of: u64) -> io::Result<()> {
+    println!(rt; "cross_check: TOO FEW {what}: {n} of {of}")
 }
 
 // The last line.
 fn tell_verdict(rt: &impl Print, t: Tally) -> io::Result<()> {
-    let units = least(t.up, t.down);
-    let enough = pick(t.offsets < FEWEST, 2, pick(units < FEWEST, 3, 4));
-    let all = pick(t.compared == OWED, enough, 1);
-    match pick(t.differ == 0, all, 0) {
-        0 => tell_difference(rt, t),
-        1 => tell_few(rt, b"cases: ", t.compared, OWED),
-        2 => tell_few(
+    let units = t.up.min(t.down);
+    if t.differ != 0 {
+        println!(rt;
+            "cross_check: DIFFER in {} of {} cases, in groups: {}",
+            t.differ, t.compared, t.differing
+        )
+    } else if t.compared != OWED {
+        tell_few(rt, "cases", t.compared, OWED)
+    } else if t.offsets < FEWEST {
+        tell_few(
             rt,
-            b"offsets accepted after an earlier one: ",
+            "offsets accepted after an earlier one",
             t.offsets,
             FEWEST,
-        ),
-        3 => tell_few(
+        )
+    } else if units < FEWEST {
+        tell_few(
             rt,
-            b"cases decided by whole units, up or down: ",
+            "cases decided by whole units, up or down",
             units,
             FEWEST,
-        ),
-        _ => tell_agreement(rt, t),
+        )
+    } else {
+        println!(rt;
+            "cross_check: {} of {OWED} cases in {} groups, 0 differ: the two agree",
+            t.compared, t.agreeing
+        )
     }
 }
 
-// All groups.
-fn cross_check(rt: &impl Print) -> io::Result<()> {
-    rt.write_all(
-        b"cases compared, cases that differ, and how often each answer was given (0: accepted, else the refusal):\n",
+// The groups of events on the clock.
+fn run_calls(rt: &impl Print, all: &mut Tally) -> io::Result<()> {
+    run(
+        rt,
+        all,
+        "ticks",
+        100000,
+        |case| calls::event_on_any(case, 0),
     )?;
-    let mut t = nothing();
-    let mut k: u64 = 0;
-    while k < GROUPS as u64 {
-        t = joined(t, run(rt, k)?);
-        k += 1;
-    }
-    tell_verdict(rt, t)
+    run(
+        rt,
+        all,
+        "settings",
+        20000,
+        |case| calls::event_on_any(case, 1),
+    )?;
+    run(
+        rt,
+        all,
+        "requests",
+        100000,
+        |case| calls::event_on_any(case, 2),
+    )?;
+    run(
+        rt,
+        all,
+        "readings",
+        10000,
+        |case| calls::event_on_any(case, 3),
+    )?;
+    run(rt, all, "catch-ups", 30000, calls::catch_up)?;
+    run(rt, all, "long catch-ups", 200, calls::long_catch_up)?;
+    run(rt, all, "lists of events", 400, calls::list)?;
+    run(rt, all, "many ticks", 10000, calls::many_ticks)?;
+    run(rt, all, "units carried", 60000, calls::edge_ticks)?;
+    run(rt, all, "kinds", 256, calls::start)
+}
+
+// The groups of bytes that are written and read.
+fn run_forms(rt: &impl Print, all: &mut Tally) -> io::Result<()> {
+    run(rt, all, "numbers read", 100000, numbers::read)?;
+    run(rt, all, "numbers written", 50000, numbers::write)?;
+    run(rt, all, "numbers mapped", 10000, numbers::map)?;
+    run(rt, all, "labels written", 30000, labels::write)?;
+    run(rt, all, "labels read", 120000, labels::read)?;
+    run(rt, all, "days", 49711, labels::day)?;
+    run(rt, all, "records written", 50000, records::write)?;
+    run(rt, all, "records read", 100000, records::read)?;
+    run(rt, all, "old records read", 100000, records::read_old)?;
+    run(rt, all, "odd kinds read", 40000, records::read_odd_kind)?;
+    run(rt, all, "odd parts read", 40000, records::read_odd_parts)
+}
+
+// The groups of summaries and histories.
+fn run_histories(rt: &impl Print, all: &mut Tally) -> io::Result<()> {
+    run(rt, all, "summaries", 30000, summaries::list)?;
+    run(rt, all, "histories", 40000, histories::replay)?;
+    run(rt, all, "long histories", 16, histories::long)
+}
+
+fn cross_check(rt: &impl Print) -> io::Result<()> {
+    println!(rt;
+        "cases compared, cases that differ, and how often each answer was given (0: accepted, else the refusal):"
+    )?;
+    let mut all = Tally::default();
+    run_calls(rt, &mut all)?;
+    run_forms(rt, &mut all)?;
+    run_histories(rt, &mut all)?;
+    tell_verdict(rt, all)
 }
 
 // A line that can't be written ends it without a word. Where that is because nobody reads the pipe, the

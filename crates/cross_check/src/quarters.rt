@@ -4,7 +4,8 @@
 use crate::dates::clock_stamp;
 use crate::form::ROW;
 use crate::rules::{State, times};
-use crate::signed::{least, minus, pick, plus, unmapped};
+use crate::signed::{Signed, pick};
+use std::array;
 
 // The quarter-hours of a day.
 pub(crate) const QUARTERS: usize = 96;
@@ -13,36 +14,40 @@ pub(crate) const QUARTERS: usize = 96;
 // history.
 const KEPT: usize = 32;
 
-// The accepted offsets of a list: the fourteen digits of the label before each, and the offset, mapped; how
-// many there are; and what stood in the quarter-hours before the list, which is nothing for 0.
+// An accepted offset: the fourteen digits of the label before it, and the offset, mapped.
+#[derive(Clone, Copy)]
+struct Offset {
+    stamp: u64,
+    mapped: u64,
+}
+
+// The accepted offsets of a list, in its order, the free places last; and what stood in the quarter-hours
+// before the list, which is nothing for 0.
 #[derive(Clone, Copy)]
 pub(crate) struct Taken {
-    stamps: [u64; KEPT],
-    offsets: [u64; KEPT],
-    count: usize,
+    offsets: [Option<Offset>; KEPT],
     before: u64,
 }
 
 // Before the first event.
 pub(crate) fn none_taken(before: u64) -> Taken {
     Taken {
-        stamps: [0u64; KEPT],
-        offsets: [0u64; KEPT],
-        count: 0,
-        before: before,
+        offsets: [None; KEPT],
+        before,
     }
 }
 
-// The offsets after an event on a clock, which was answered with a refusal, or 0.
-pub(crate) fn taken_after(t: Taken, s: State, row: &[u64; ROW], refusal: u64) -> Taken {
-    if (row[0] != 2) | (row[1] % 2 == 0) | (refusal != 0) {
-        return t;
-    }
-    let k = t.count % KEPT;
+// The offsets after an event on a clock, which was accepted or refused.
+pub(crate) fn taken_after(t: Taken, s: State, row: &[u64; ROW], accepted: bool) -> Taken {
     let mut next = t;
-    next.stamps[k] = clock_stamp(s);
-    next.offsets[k] = row[2];
-    next.count = k + 1;
+    if row[0] == 2 && row[1] % 2 == 1 && accepted {
+        if let Some(free) = next.offsets.iter().position(|place| place.is_none()) {
+            next.offsets[free] = Some(Offset {
+                stamp: clock_stamp(s),
+                mapped: row[2],
+            });
+        }
+    }
     next
 }
 
@@ -56,17 +61,17 @@ pub(crate) struct Quarter {
 // What stood in a quarter-hour before a list: often nothing, or a count that is about to stop, with a size
 // that is mostly one of an offset.
 fn stood(before: u64, quarter: u64) -> Quarter {
-    let v = times(before, plus(quarter, 1));
+    let v = times(before, quarter.saturating_add(1));
     let n = v / 8;
     let count = match v % 8 {
-        1 | 2 => minus(65535, n % 3),
+        1 | 2 => 65535 - n % 3,
         3 => n % 65536,
         4 | 5 => n % 3,
         _ => 0,
     };
     Quarter {
         count: count,
-        largest: pick(n % 16 == 15, minus(4294967295, n), n % 128000),
+        largest: pick(n % 16 == 15, 4294967295_u64.saturating_sub(n), n % 128000),
     }
 }
 
@@ -74,45 +79,22 @@ fn stood(before: u64, quarter: u64) -> Quarter {
 fn lies_in(stamp: u64, quarter: u64) -> bool {
     let first = quarter % 128 / 4 * 100 + quarter % 4 * 15;
     let minute = stamp / 100 % 10000;
-    (first <= minute) & (minute < first + 15)
+    first <= minute && minute < first + 15
 }
 
 // A quarter-hour after a list.
-pub(crate) fn quarter_of(t: Taken, quarter: u64) -> Quarter {
-    let n = t.count;
+pub(crate) fn quarter_of(t: &Taken, quarter: u64) -> Quarter {
     let mut q = stood(t.before, quarter);
-    let mut k: usize = 0;
-    while k < n {
-        let at = k % KEPT;
-        let here = lies_in(t.stamps[at], quarter);
-        let size = pick(here, unmapped(t.offsets[at]).size, 0);
-        q.count = plus(q.count, pick(here, 1, 0));
-        q.largest = pick(q.largest < size, size, q.largest);
-        k += 1;
+    for offset in t.offsets.iter().map_while(|place| *place) {
+        if lies_in(offset.stamp, quarter) {
+            q.count = q.count.saturating_add(1).min(65535);
+            q.largest = q.largest.max(Signed::unmapped(offset.mapped).size);
+        }
     }
-    q.count = least(q.count, 65535);
     q
 }
 
 // All quarter-hours after a list.
-#[derive(Clone, Copy)]
-pub(crate) struct Cells {
-    pub(crate) counts: [u16; QUARTERS],
-    pub(crate) largest: [u32; QUARTERS],
-}
-
-pub(crate) fn afresh(t: Taken) -> Cells {
-    let mut counts = [0u16; QUARTERS];
-    let mut largest = [0u32; QUARTERS];
-    let mut k: usize = 0;
-    while k < QUARTERS {
-        let q = quarter_of(t, k as u64);
-        counts[k] = (q.count % 65536) as u16;
-        largest[k] = (q.largest % 4294967296) as u32;
-        k += 1;
-    }
-    Cells {
-        counts: counts,
-        largest: largest,
-    }
+pub(crate) fn afresh(t: &Taken) -> [Quarter; QUARTERS] {
+    array::from_fn(|k| quarter_of(t, k as u64))
 }

@@ -4,12 +4,14 @@ use crate::devices::{
     PHASE_MICRO, adjustment_at, adjustment_of, in_parts, known, lost, parts, reached, whole_micros,
 };
 use crate::form::ROW;
-use crate::signed::{Signed, halved, least, mapped, minus, pick, plus, sum, unmapped};
+use crate::refusals::Refusal;
+use crate::signed::{Signed, halved, pick};
 
 // The table of document 01, in its order; `since` is document 02's number of rollovers since the last offset,
 // in place of its second. Behind it document 02's kind of device, and the parts of a phase unit that each
-// tick adds and that have added up.
-#[derive(Clone, Copy)]
+// tick adds and that have added up. All are numbers, flag, status and kind too: in a state that is not sound
+// any may stand there.
+#[derive(Clone, Copy, PartialEq, Eq)]
 pub(crate) struct State {
     pub(crate) seconds: u64,
     pub(crate) micros: u64,
@@ -28,12 +30,6 @@ pub(crate) struct State {
     pub(crate) leftover: u64,
 }
 
-#[derive(Clone, Copy)]
-pub(crate) struct Answer {
-    pub(crate) refusal: u64,
-    pub(crate) state: State,
-}
-
 // The fresh clock of a kind.
 pub(crate) fn fresh(kind: u64) -> State {
     State {
@@ -49,23 +45,18 @@ pub(crate) fn fresh(kind: u64) -> State {
         maximum: 16000000,
         estimated: 16000000,
         status: 4,
-        kind: kind,
+        kind,
         remainder: 0,
         leftover: 0,
     }
 }
 
 // The fresh clock of a number that need not be a kind.
-pub(crate) fn begin(kind: u64) -> Answer {
-    match pick(known(kind), 0, 1) {
-        0 => Answer {
-            refusal: 0,
-            state: fresh(kind),
-        },
-        _ => Answer {
-            refusal: 1,
-            state: fresh(0),
-        },
+pub(crate) fn begin(kind: u64) -> Result<State, Refusal> {
+    if known(kind) {
+        Ok(fresh(kind))
+    } else {
+        Err(Refusal::State)
     }
 }
 
@@ -144,67 +135,70 @@ fn most_at(row: &[u64; ROW], k: usize) -> u64 {
         4 => 536870910,
         5 => 4194271232,
         6 => 3355443200,
-        10 => pick(row[9] == 0, 0, pick(row[0] == 1, 4294967295, 1024)),
+        10 if row[9] == 0 => 0,
+        10 if row[0] == 1 => 4294967295,
+        10 => 1024,
         11 | 12 => 16000000,
         8 | 13 => 4,
-        14 | 15 => minus(plus(parts(row[1]), parts(row[1])), 2),
+        14 | 15 => parts(row[1]).saturating_mul(2).saturating_sub(2),
         _ => 1,
     }
 }
 
 // Whether the first `count` numbers of a record are in range: the version from 1 on, the adjustment as the
 // record's kind has it.
-pub(crate) fn fits(row: &[u64; ROW], count: u64) -> bool {
-    let mut ok = (count == 0) | (0 < row[0]);
-    ok = ok & ((count < 8) | reached(row[1], row[7]));
-    let mut k: usize = 0;
-    while k < ROW {
-        ok = ok & ((count <= k as u64) | (row[k] <= most_at(row, k)));
-        k += 1;
-    }
-    ok
+pub(crate) fn fits(row: &[u64; ROW], count: usize) -> bool {
+    let versioned = count == 0 || 0 < row[0];
+    let adjusted = count < 8 || reached(row[1], row[7]);
+    let mut judged = row.iter().enumerate().take(count);
+    versioned && adjusted && judged.all(|(k, n)| *n <= most_at(row, k))
 }
 
 pub(crate) fn sound(s: State) -> bool {
-    let row = row_of(s);
-    fits(&row, ROW as u64)
+    fits(&row_of(s), ROW)
 }
 
 // The second that a rollover has reached, with its leap step, in `seconds` and `status`.
 fn leapt(s: State) -> State {
     let of_day = s.seconds % 86400;
-    let inserts = (s.status == 1) & (of_day == 0);
-    let deletes = (s.status == 2) & (of_day == 86399);
-    let mut t = s;
-    t.seconds = minus(plus(s.seconds, pick(deletes, 1, 0)), pick(inserts, 1, 0));
-    t.status = pick(inserts, 3, pick(deletes | (s.status == 3), 0, s.status));
-    t
+    let inserts = s.status == 1 && of_day == 0;
+    let deletes = s.status == 2 && of_day == 86399;
+    let over = pick(deletes || s.status == 3, 0, s.status);
+    State {
+        seconds: s
+            .seconds
+            .saturating_add(u64::from(deletes))
+            .saturating_sub(u64::from(inserts)),
+        status: pick(inserts, 3, over),
+        ..s
+    }
 }
 
 fn rolled(s: State) -> State {
-    let left = unmapped(s.left);
-    let share = halved(left.size / 1024, s.constant);
-    let mut t = s;
-    t.seconds = plus(s.seconds, 1);
-    t.micros = minus(s.micros, 1000000);
-    t.maximum = least(plus(s.maximum, 100), 16000000);
-    t.since = least(plus(s.since, s.flag), 1024);
-    t.left = mapped(left.negative, minus(left.size, share));
-    t.adjustment = adjustment_of(s.kind, left.negative, share, s.frequency);
-    t.remainder = lost(s.kind, s.frequency);
-    leapt(t)
+    let left = Signed::unmapped(s.left);
+    let share = Signed::new(left.negative, halved(left.size / 1024, s.constant));
+    leapt(State {
+        seconds: s.seconds.saturating_add(1),
+        micros: s.micros.saturating_sub(1000000),
+        maximum: s.maximum.saturating_add(100).min(16000000),
+        since: s.since.saturating_add(s.flag).min(1024),
+        left: Signed::new(left.negative, left.size.saturating_sub(share.size)).mapped(),
+        adjustment: adjustment_of(s.kind, share, s.frequency),
+        remainder: lost(s.kind, s.frequency),
+        ..s
+    })
 }
 
 // What has added up with a tick's remainder, before a whole unit is taken off.
 pub(crate) fn gathered(s: State) -> Signed {
-    sum(unmapped(s.leftover), unmapped(s.remainder))
+    Signed::unmapped(s.leftover) + Signed::unmapped(s.remainder)
 }
 
 // Phase and leftover after a tick as one number of parts: none of adjustment and remainder is lost, whichever
 // of the two a part goes to.
 fn exact(s: State) -> Signed {
-    let phase = sum(unmapped(s.phase), unmapped(s.adjustment));
-    sum(in_parts(s.kind, phase), gathered(s))
+    let phase = Signed::unmapped(s.phase) + Signed::unmapped(s.adjustment);
+    in_parts(s.kind, phase) + gathered(s)
 }
 
 // The leftover after a tick: less than a unit, on the side where it has added up, and the rest of the exact
@@ -213,110 +207,122 @@ fn leftover_of(s: State, total: Signed) -> Signed {
     let unit = parts(s.kind);
     let side = gathered(s);
     let over = total.size % unit;
-    Signed {
-        negative: side.negative,
-        size: pick(
-            side.negative == total.negative,
-            over,
-            minus(unit, over) % unit,
-        ),
+    if side.negative == total.negative {
+        Signed::new(side.negative, over)
+    } else {
+        Signed::new(side.negative, unit.saturating_sub(over) % unit)
     }
 }
 
 // The phase after a tick, before whole microseconds are taken off.
 fn phase_of(kind: u64, total: Signed, leftover: Signed) -> Signed {
-    let back = Signed {
-        negative: !leftover.negative,
-        size: leftover.size,
-    };
-    let whole = sum(total, back);
-    Signed {
-        negative: whole.negative,
-        size: whole.size / parts(kind),
-    }
+    let whole = total - leftover;
+    Signed::new(whole.negative, whole.size / parts(kind))
 }
 
 // One tick of a sound clock.
-pub(crate) fn tick(s: State) -> Answer {
+pub(crate) fn tick(s: State) -> Result<State, Refusal> {
     let total = exact(s);
     let leftover = leftover_of(s, total);
     let moved = phase_of(s.kind, total, leftover);
     let whole = moved.size / PHASE_MICRO;
-    let grown = plus(s.micros, whole_micros(s.kind));
-    let mut t = s;
-    t.leftover = mapped(leftover.negative, leftover.size);
-    t.micros = pick(moved.negative, minus(grown, whole), plus(grown, whole));
-    t.phase = mapped(moved.negative, moved.size % PHASE_MICRO);
-    match pick(t.micros < 1000000, 0, pick(s.seconds == 4294967295, 1, 2)) {
-        0 => Answer {
-            refusal: 0,
-            state: t,
+    let grown = s.micros.saturating_add(whole_micros(s.kind));
+    let after = State {
+        leftover: leftover.mapped(),
+        micros: if moved.negative {
+            grown.saturating_sub(whole)
+        } else {
+            grown.saturating_add(whole)
         },
-        1 => Answer {
-            refusal: 3,
-            state: s,
-        },
-        _ => Answer {
-            refusal: 0,
-            state: rolled(t),
-        },
+        phase: Signed::new(moved.negative, moved.size % PHASE_MICRO).mapped(),
+        ..s
+    };
+    if after.micros < 1000000 {
+        Ok(after)
+    } else if s.seconds == 4294967295 {
+        Err(Refusal::Last)
+    } else {
+        Ok(rolled(after))
     }
 }
 
-fn set(s: State, seconds: u64, micros: u64) -> Answer {
-    let mut t = fresh(s.kind);
-    t.seconds = seconds;
-    t.micros = micros;
-    t.frequency = s.frequency;
-    t.constant = s.constant;
-    t.adjustment = adjustment_of(s.kind, false, 0, s.frequency);
-    t.remainder = lost(s.kind, s.frequency);
-    match pick((4294967295 < seconds) | (999999 < micros), 2, 0) {
-        0 => Answer {
-            refusal: 0,
-            state: t,
-        },
-        _ => Answer {
-            refusal: 2,
-            state: s,
-        },
+fn set(s: State, seconds: u64, micros: u64) -> Result<State, Refusal> {
+    if 4294967295 < seconds || 999999 < micros {
+        return Err(Refusal::Time);
+    }
+    Ok(State {
+        seconds,
+        micros,
+        frequency: s.frequency,
+        constant: s.constant,
+        adjustment: adjustment_of(s.kind, Signed::new(false, 0), s.frequency),
+        remainder: lost(s.kind, s.frequency),
+        ..fresh(s.kind)
+    })
+}
+
+// What a request selects; offset and frequency are mapped.
+#[derive(Clone, Copy)]
+struct Asked {
+    offset: Option<u64>,
+    frequency: Option<u64>,
+    maximum: Option<u64>,
+    estimated: Option<u64>,
+    status: Option<u64>,
+    constant: Option<u64>,
+}
+
+// A request is a row: code, mode, then the fields in order of mode bit.
+fn asked_by(row: &[u64; ROW]) -> Asked {
+    let mode = row[1];
+    let selected = |bit: u64, n: u64| (mode & bit != 0).then_some(n);
+    Asked {
+        offset: selected(1, row[2]),
+        frequency: selected(2, row[3]),
+        maximum: selected(4, row[4]),
+        estimated: selected(8, row[5]),
+        status: selected(16, row[6]),
+        constant: selected(32, row[7]),
     }
 }
 
-// The request's number at `k` where its mode has the bit, else the old one.
-fn chosen(row: &[u64; ROW], k: usize, bit: u64, old: u64) -> u64 {
-    pick((row[1] & bit) == 0, old, row[k % ROW])
+fn above(asked: Option<u64>, most: u64) -> bool {
+    asked.is_some_and(|n| most < n)
 }
 
-// The rollovers that must have come since the last offset: none for a request that selects no offset, or
-// where there was none before.
-fn wait(s: State, row: &[u64; ROW]) -> u64 {
-    pick(row[1] % 2 == 0, 0, s.flag % 2 * 64)
-}
-
-// The first of 4 to 9 and 17 that applies, or 0. A request is a row: code, mode, then the fields in order of
-// mode bit.
-fn judged(s: State, row: &[u64; ROW]) -> u64 {
-    let mut refusal = pick(s.since < wait(s, row), 17, 0);
-    refusal = pick(4 < chosen(row, 7, 32, 0), 9, refusal);
-    refusal = pick(4 < chosen(row, 6, 16, 0), 8, refusal);
-    refusal = pick(16000000 < chosen(row, 5, 8, 0), 7, refusal);
-    refusal = pick(16000000 < chosen(row, 4, 4, 0), 7, refusal);
-    refusal = pick(3355443198 < chosen(row, 3, 2, 0), 6, refusal);
-    refusal = pick(255998 < chosen(row, 2, 1, 0), 5, refusal);
-    pick(63 < row[1], 4, refusal)
+// The first refusal of a request that applies. An offset waits for 64 rollovers since the one before, if
+// there was one.
+fn judged(s: State, mode: u64, a: Asked) -> Result<(), Refusal> {
+    if 63 < mode {
+        Err(Refusal::Mode)
+    } else if above(a.offset, 255998) {
+        Err(Refusal::Offset)
+    } else if above(a.frequency, 3355443198) {
+        Err(Refusal::Frequency)
+    } else if above(a.maximum, 16000000) || above(a.estimated, 16000000) {
+        Err(Refusal::Error)
+    } else if above(a.status, 4) {
+        Err(Refusal::Status)
+    } else if above(a.constant, 4) {
+        Err(Refusal::Constant)
+    } else if a.offset.is_some() && s.flag == 1 && s.since < 64 {
+        Err(Refusal::Soon)
+    } else {
+        Ok(())
+    }
 }
 
 // Frequency, errors, status and time constant.
-fn plain_effects(s: State, row: &[u64; ROW]) -> State {
-    let status = chosen(row, 6, 16, s.status);
-    let mut t = s;
-    t.frequency = chosen(row, 3, 2, s.frequency);
-    t.maximum = chosen(row, 4, 4, s.maximum);
-    t.estimated = chosen(row, 5, 8, s.estimated);
-    t.status = pick((s.status == 0) | (status == 4), status, s.status);
-    t.constant = chosen(row, 7, 32, s.constant);
-    t
+fn plain_effects(s: State, a: Asked) -> State {
+    let status = a.status.unwrap_or(s.status);
+    State {
+        frequency: a.frequency.unwrap_or(s.frequency),
+        maximum: a.maximum.unwrap_or(s.maximum),
+        estimated: a.estimated.unwrap_or(s.estimated),
+        status: pick(s.status == 0 || status == 4, status, s.status),
+        constant: a.constant.unwrap_or(s.constant),
+        ..s
+    }
 }
 
 pub(crate) fn times(a: u64, b: u64) -> u64 {
@@ -326,70 +332,76 @@ pub(crate) fn times(a: u64, b: u64) -> u64 {
 // The frequency with the gain of an offset.
 fn gained(s: State, offset: Signed) -> u64 {
     let quarter = halved(times(offset.size, s.since), s.constant);
-    let gain = Signed {
-        negative: offset.negative,
-        size: halved(quarter, s.constant),
-    };
-    let f = sum(unmapped(s.frequency), gain);
-    mapped(f.negative, least(f.size, 1677721600))
+    let gain = Signed::new(offset.negative, halved(quarter, s.constant));
+    let f = Signed::unmapped(s.frequency) + gain;
+    Signed::new(f.negative, f.size.min(1677721600)).mapped()
 }
 
 fn offset_effects(s: State, n: u64, writes_bad: bool) -> State {
-    let offset = unmapped(n);
-    let mut t = s;
-    t.left = mapped(offset.negative, offset.size % 131072 * 16384);
-    t.frequency = gained(s, offset);
-    t.flag = 1;
-    t.since = 0;
-    t.status = pick((s.status == 4) & !writes_bad, 0, s.status);
-    t
+    let offset = Signed::unmapped(n);
+    State {
+        left: Signed::new(offset.negative, offset.size % 131072 * 16384).mapped(),
+        frequency: gained(s, offset),
+        flag: 1,
+        since: 0,
+        status: pick(s.status == 4 && !writes_bad, 0, s.status),
+        ..s
+    }
 }
 
-fn adjust(s: State, row: &[u64; ROW]) -> Answer {
-    let refusal = judged(s, row);
-    let t = plain_effects(s, row);
-    match pick(refusal == 0, row[1] % 2, 2) {
-        0 => Answer {
-            refusal: 0,
-            state: t,
-        },
-        1 => Answer {
-            refusal: 0,
-            state: offset_effects(t, row[2], chosen(row, 6, 16, 0) == 4),
-        },
-        _ => Answer {
-            refusal: refusal,
-            state: s,
-        },
-    }
+fn adjust(s: State, row: &[u64; ROW]) -> Result<State, Refusal> {
+    let a = asked_by(row);
+    judged(s, row[1], a)?;
+    let after = plain_effects(s, a);
+    Ok(match a.offset {
+        Some(n) => offset_effects(after, n, a.status == Some(4)),
+        None => after,
+    })
 }
 
 // A reading: its state is shown where it is sound.
-pub(crate) fn reading(s: State) -> Answer {
-    Answer {
-        refusal: pick(sound(s), 0, 1),
-        state: s,
-    }
+pub(crate) fn reading(s: State) -> Result<State, Refusal> {
+    if sound(s) { Ok(s) } else { Err(Refusal::State) }
 }
 
-// An event on a clock: code 0 one tick, 1 a setting, 2 a request, 3 a reading.
-pub(crate) fn step(s: State, row: &[u64; ROW]) -> Answer {
-    let told = reading(s);
-    match pick(told.refusal == 0, row[0], 3) {
+// An event on a clock, as it leaves it: code 0 one tick, 1 a setting, 2 a request, 3 a reading. A code is a
+// number and not an enum: it stands so in a history, where any may come.
+pub(crate) fn step(s: State, row: &[u64; ROW]) -> Result<State, Refusal> {
+    reading(s)?;
+    match row[0] {
         0 => tick(s),
         1 => set(s, row[1], row[2]),
         2 => adjust(s, row),
-        _ => told,
+        _ => Ok(s),
     }
 }
 
-// What an event of a code shows: the state that an accepted reading tells of, else zeros and status 4.
-pub(crate) fn shown(refusal: u64, s: State, code: u64) -> State {
-    if (code == 3) & (refusal == 0) {
-        return s;
+// What a reading shows of a clock.
+#[derive(Clone, Copy, PartialEq, Eq)]
+pub(crate) struct Shown {
+    pub(crate) seconds: u64,
+    pub(crate) micros: u64,
+    pub(crate) status: u64,
+    pub(crate) maximum: u64,
+    pub(crate) estimated: u64,
+}
+
+// What an event of a code shows: an accepted reading its clock, any other zeros and status 4.
+pub(crate) fn shown_by(code: u64, after: Result<State, Refusal>) -> Shown {
+    match after {
+        Ok(s) if code == 3 => Shown {
+            seconds: s.seconds,
+            micros: s.micros,
+            status: s.status,
+            maximum: s.maximum,
+            estimated: s.estimated,
+        },
+        _ => Shown {
+            seconds: 0,
+            micros: 0,
+            status: 4,
+            maximum: 0,
+            estimated: 0,
+        },
     }
-    let mut none = fresh(0);
-    none.maximum = 0;
-    none.estimated = 0;
-    none
 }

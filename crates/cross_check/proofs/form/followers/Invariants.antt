@@ -1,9 +1,0 @@
--- `cross_check::form::followers` ends: at most five bytes are looked at.
-use Rattle.std.proofs.Common.{◌-◌, ◌≤◌}
-use Rattle.cross_check.proofs.form.followers.Given as goal
-
-abbrev pub invariant-loop-k : goal.invariant-loop-k
-invariant-loop-k l = l.k ≤ 5
-
-abbrev pub decreases-loop-k : goal.decreases-loop-k
-decreases-loop-k l = 5 - l.k

@@ -1,9 +1,0 @@
--- `cross_check::form::take` ends: one turn for each number.
-use Rattle.std.proofs.Common.{◌-◌, ◌≤◌}
-use Rattle.cross_check.proofs.form.take.Given as goal
-
-abbrev pub invariant-loop-k : goal.invariant-loop-k
-invariant-loop-k l = l.k ≤ 16
-
-abbrev pub decreases-loop-k : goal.decreases-loop-k
-decreases-loop-k l = 16 - l.k

@@ -1,9 +1,0 @@
--- `cross_check::many::ran` ends: one turn for each tick.
-use Rattle.std.proofs.Common.{◌-◌, ◌≤◌}
-use Rattle.cross_check.proofs.many.ran.Given as goal
-
-abbrev pub invariant-loop-k : goal.invariant-loop-k
-invariant-loop-k l = l.k ≤ l.n
-
-abbrev pub decreases-loop-k : goal.decreases-loop-k
-decreases-loop-k l = l.n - l.k

@@ -1,9 +1,0 @@
--- `cross_check::replay::put_line` ends: one turn for each byte of a line.
-use Rattle.std.proofs.Common.{◌-◌, ◌≤◌}
-use Rattle.cross_check.proofs.replay.put_line.Given as goal
-
-abbrev pub invariant-loop-k : goal.invariant-loop-k
-invariant-loop-k l = l.k ≤ 32
-
-abbrev pub decreases-loop-k : goal.decreases-loop-k
-decreases-loop-k l = 32 - l.k

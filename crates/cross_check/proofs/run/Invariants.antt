@@ -1,9 +1,0 @@
--- `cross_check::run` ends: one turn for each case.
-use Rattle.std.proofs.Common.{◌-◌, ◌≤◌}
-use Rattle.cross_check.proofs.run.Given as goal
-
-abbrev pub invariant-loop-i : goal.invariant-loop-i
-invariant-loop-i g l = l.i ≤ l.n
-
-abbrev pub decreases-loop-i : goal.decreases-loop-i
-decreases-loop-i g l = l.n - l.i
