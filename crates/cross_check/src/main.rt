@@ -29,12 +29,9 @@ mod summaries;
 
 use crate::calls::Verdict;
 use crate::refusals::number_of;
+use program::status_of;
 use std::io;
-use std::io::ErrorKind;
 use std::process::ExitCode;
-
-// 128 and the number of the signal SIGPIPE.
-const BROKEN_PIPE: u8 = 141;
 
 // Differences told one by one in each group; the others are only counted.
 const TOLD: u64 = 5;
@@ -240,16 +237,7 @@ fn cross_check(rt: &impl Print) -> io::Result<()> {
     tell_verdict(rt, all)
 }
 
-// A line that can't be written ends it without a word. Where that is because nobody reads the pipe, the
-// status is the one that a shell has for the signal of that, which std holds back.
+// A line that can't be written ends it without a word.
 fn main(rt: HostRuntime) -> ExitCode {
-    match cross_check(&rt) {
-        Ok(()) => ExitCode::SUCCESS,
-        Err(error) => {
-            if error.kind() == ErrorKind::BrokenPipe {
-                return ExitCode::from(BROKEN_PIPE);
-            }
-            ExitCode::SUCCESS
-        }
-    }
+    status_of(cross_check(&rt))
 }
