@@ -1,6 +1,6 @@
 // Both recorders, a second time, from the rates of their timers: what falls to a second is divided among its
-// ticks, in units of the phase. Kind 0 is the recorder of 256 Hz, kind 1 that of 1,024 Hz. A kind is
-// a number and not an enum: any may come, and what is neither is refused before its rate matters.
+// ticks, in units of the phase. Kind 0 is the recorder of 256 Hz, kind 1 that of 1,024 Hz. A kind is a number
+// and not an enum: any may come, and what is neither is refused before its rate matters.
 ghost use Rattle.std.specs.Prelude.{◌<◌};
 
 use crate::signed::Signed;

@@ -3,19 +3,17 @@
 use crate::dates::Label;
 use crate::devices::{adjustment_at, end_of, parts, rate, slew, whole_micros};
 use crate::form::{Number, ROW, stands};
-use crate::many::{Answer, refusal_of};
+use crate::many::{Answer, Ran, refusal_of};
 use crate::quarters::{QUARTERS, Quarter, Taken, afresh};
 use crate::refusals::{Refusal, number_of};
 use crate::replay::{Mark, Output, Replayed, STEPS, caught_up};
 use crate::rules::{Shown, State, fresh, reading, shown_by};
 use crate::signed::{Signed, pick};
-use calendar::{Date, Found};
 use clock::{
     AskedMicros, CaughtUp, Clock, Device, Frequency, Micros, OffsetUnits, Outcome, PhaseParts,
     PhaseUnits, Reading,
 };
 use event::{Call, Event, Stepped};
-use number::{Decoded, Written};
 use playback::{Filling, Run};
 use request::{AskedFrequency, AskedOffset, Request};
 use summary::Summary;
@@ -130,7 +128,7 @@ fn answered(s: State, m: Answer) -> Told {
 
 // What the second answers to a single call that leaves a clock.
 fn answered_alone(refused: State, a: Result<State, Refusal>) -> Told {
-    answered(refused, a.map(crate::many::Ran::from))
+    answered(refused, a.map(Ran::from))
 }
 
 impl From<Outcome> for Told {
@@ -337,18 +335,16 @@ pub(crate) fn same_ticks(s: State, n: u64, m: Answer) -> bool {
     u64::from(o.refusal) == number_of(refusal_of(m)) && State::from(o.clock) == answered(s, m).state
 }
 
-// The value of a number and the place after it, or the refusal's number.
-fn number_at(bytes: &[u8], at: usize) -> Result<(u64, usize), u64> {
-    match number::read(bytes, at) {
-        Decoded::Value { value, next } => Ok((value, next)),
-        Decoded::Refused(n) => Err(u64::from(n)),
-    }
+// An answer of the first with the number that its refusal has.
+fn numbered<T>(answer: Result<T, state::Refusal>) -> Result<T, u64> {
+    answer.map_err(|refusal| u64::from(refusal.number()))
 }
 
 // The number at `at`.
 pub(crate) fn same_number(bytes: &[u8], at: usize, mine: Result<Number, Refusal>) -> bool {
+    let first = numbered(number::read(bytes, at));
     let mine = mine.map(|n| (n.value, at.saturating_add(n.size)));
-    mine.map_err(Refusal::number) == number_at(bytes, at)
+    first.map(|n| (n.value, n.next)) == mine.map_err(Refusal::number)
 }
 
 // What a writer answered: the place after what it wrote, or the refusal's number; and the buffer, of which it
@@ -368,16 +364,9 @@ fn written_by<F: FnOnce(&mut [u8]) -> Result<usize, u64>>(fill: u8, room: usize,
     Wrote { answer, text }
 }
 
-fn answer_of(w: Written) -> Result<usize, u64> {
-    match w.refusal {
-        0 => Ok(w.next),
-        n => Err(u64::from(n)),
-    }
-}
-
 // One number, by the writer of a single one.
 pub(crate) fn write_number(fill: u8, room: usize, at: usize, n: u64) -> Wrote {
-    written_by(fill, room, |buf| answer_of(number::write(buf, at, word(n))))
+    written_by(fill, room, |buf| numbered(number::write(buf, at, word(n))))
 }
 
 // Up to a row of numbers.
@@ -390,7 +379,7 @@ pub(crate) fn write_numbers(fill: u8, room: usize, at: usize, numbers: &[u64]) -
     written_by(
         fill,
         room,
-        |buf| answer_of(number::write_all(buf, at, words)),
+        |buf| numbered(number::write_all(buf, at, words)),
     )
 }
 
@@ -403,10 +392,11 @@ pub(crate) fn same_mapping(n: u64, m: u64, size: usize) -> bool {
 
 // A label's writer tells no place: it is always the same.
 pub(crate) fn write_label(s: State, fill: u8, room: usize) -> Wrote {
-    written_by(fill, room, |buf| match label::write(clock_of(s), buf) {
-        0 => Ok(20),
-        n => Err(u64::from(n)),
-    })
+    written_by(
+        fill,
+        room,
+        |buf| numbered(label::write(clock_of(s), buf)).map(|()| 20),
+    )
 }
 
 // A text that is no label gives second 0 and no 60.
@@ -418,28 +408,16 @@ pub(crate) fn same_label(text: &[u8], mine: Result<Label, Refusal>) -> bool {
         && a.sixty == sixty
 }
 
-fn day_of(d: Date) -> Option<u64> {
-    match calendar::day_of(d) {
-        Found::Day(day) => Some(u64::from(day)),
-        Found::NoDay => None,
-    }
-}
-
 // The date of a second, eight digits, and the day that has this date.
 pub(crate) fn same_date(second: u64, date: u64) -> bool {
     let d = calendar::date_of_second(word(second));
     let told = [d.year, d.month, d.day].map(u64::from);
-    told == [date / 10000, date / 100 % 100, date % 100] && day_of(d) == Some(second / 86400)
+    told == [date / 10000, date / 100 % 100, date % 100]
+        && calendar::day_of(d).map(u64::from) == Some(second / 86400)
 }
 
 pub(crate) fn write_record(s: State, fill: u8, room: usize) -> Wrote {
-    written_by(fill, room, |buf| {
-        let w = record::write(clock_of(s), buf);
-        match w.refusal {
-            0 => Ok(w.length),
-            n => Err(u64::from(n)),
-        }
-    })
+    written_by(fill, room, |buf| numbered(record::write(clock_of(s), buf)))
 }
 
 // The clock that bytes are a record of; of bytes that are none the fresh one of kind 0.
@@ -462,16 +440,6 @@ fn summary_of(mine: [Quarter; QUARTERS]) -> Summary {
         counts: mine.map(|q| (q.count % 65536) as u16),
         largest: mine.map(|q| word(q.largest)),
     }
-}
-
-// A step of a list by the call that changes the summary which it is lent.
-fn step_in_place(c: Clock, e: Event, m: Summary) -> (Stepped, Summary) {
-    let Summary {
-        mut counts,
-        mut largest,
-    } = m;
-    let stepped = summary::step_in_place(c, e, &mut counts, &mut largest);
-    (stepped, Summary { counts, largest })
 }
 
 // The summaries that the first has carried along a list, by value and in place, and whether it answered the
@@ -498,7 +466,8 @@ pub(crate) fn carried_past(from: Carried, s: State, row: &[u64; ROW], m: Answer)
     let c = clock_of(s);
     let e = event_of(row);
     let a = summary::step(c, e, from.by_value);
-    let (stepped, in_place) = step_in_place(c, e, from.in_place);
+    let mut in_place = from.in_place;
+    let stepped = summary::step_in_place(c, e, &mut in_place);
     Carried {
         by_value: a.summary,
         in_place,

@@ -70,7 +70,7 @@ fn stood(before: u64, quarter: u64) -> Quarter {
         _ => 0,
     };
     Quarter {
-        count: count,
+        count,
         largest: pick(n % 16 == 15, 4294967295_u64.saturating_sub(n), n % 128000),
     }
 }
