@@ -29,11 +29,7 @@ mod summaries;
 use crate::calls::Verdict;
 use crate::signed::{least, minus, pick, plus};
 use std::io;
-use std::io::ErrorKind;
 use std::process::ExitCode;
-
-// 128 and the number of the signal SIGPIPE.
-const BROKEN_PIPE: u8 = 141;
 
 // Differences told one by one in each group; the others are only counted.
 const TOLD: u64 = 5;
@@ -328,16 +324,7 @@ fn cross_check(rt: &impl Print) -> io::Result<()> {
     tell_verdict(rt, t)
 }
 
-// A line that can't be written ends it without a word. Where that is because nobody reads the pipe, the
-// status is the one that a shell has for the signal of that, which std holds back.
+// A line that can't be written ends it without a word.
 fn main(rt: HostRuntime) -> ExitCode {
-    match cross_check(&rt) {
-        Ok(()) => ExitCode::SUCCESS,
-        Err(error) => {
-            if error.kind() == ErrorKind::BrokenPipe {
-                return ExitCode::from(BROKEN_PIPE);
-            }
-            ExitCode::SUCCESS
-        }
-    }
+    program::status_of(cross_check(&rt))
 }
