@@ -22,8 +22,8 @@ use Rattle.state.proofs.DeviceLaws.{divisor_pos}
 use Rattle.state.proofs.Ok.{Parts, Ok}
 use Rattle.clock.specs.Tick.{unit_reached, leftover_left, carry, phase_left, micros_grown}
 use Rattle.clock.specs.Inner.{Within, advance_of, moved_to, leftover_sums, units_reached, leftover_later, phase_sums, carries, phase_later, micros_later, jump_of}
-use Rattle.clock.proofs.UnitLaws.{unit_eq, left_eq, fits_leftover, fits_remainder}
-use Rattle.clock.proofs.TickLaws.{fits_phase, fits_adjustment, grown_eq}
+use Rattle.clock.proofs.UnitLaws.{unit_eq, left_eq, read_leftover, read_remainder}
+use Rattle.clock.proofs.TickLaws.{read_phase, read_adjustment, grown_eq}
 
 -- the clock j ticks later, where none of them reaches the end of the second
 abbrev pub jumped : ℕ → Clock → Clock
@@ -89,23 +89,11 @@ module _ (c : Clock) (k : Ok c) (j : ℕ) where
 -- ---- they fit their types, where none but the last tick can reach the end of the second
 
 module _ (c : Clock) (k : Ok c) where
-  pub read_phase : to_z w32 (of_z w32 c.phase.0) ≡ c.phase.0
-  read_phase = to_z-of_z (fits_phase c k)
-
-  pub read_adjustment : to_z w32 (of_z w32 c.adjustment.0) ≡ c.adjustment.0
-  read_adjustment = to_z-of_z (fits_adjustment c k)
-
   pub wide_adjustment : SFits w64 c.adjustment.0
   wide_adjustment = sfits_parts c.adjustment.0 (omega arith)
 
   pub read_wide_adjustment : to_z w64 (of_z w64 c.adjustment.0) ≡ c.adjustment.0
   read_wide_adjustment = to_z-of_z wide_adjustment
-
-  pub read_leftover : to_z w32 (of_z w32 c.leftover.0) ≡ c.leftover.0
-  read_leftover = to_z-of_z (fits_leftover c k)
-
-  pub read_remainder : to_z w32 (of_z w32 c.remainder.0) ≡ c.remainder.0
-  read_remainder = to_z-of_z (fits_remainder c k)
 
 module _ (c : Clock) (k : Ok c) (j : ℕ) (w : Within (j - 1) c) where
   few : j ≤ 1025
@@ -252,7 +240,7 @@ module _ (c : Clock) (k : Ok c) (j : ℕ) (w : Within (j - 1) c) where
   fits_micros_later = record { fits = omega (arith, later_size) }
 
 -- What the code computes is read back as it is.
-pub ruleset leftoverReads = (read_leftover, read_remainder, read_count, read_product, read_parts, read_units, read_leftover_later)
+pub ruleset leftoverReads = (read_leftover, read_remainder, read_product, read_parts, read_units, read_leftover_later)
 
 pub ruleset jumpReads = (read_phase, read_adjustment, read_begin, read_wide_begin, read_wide_adjustment, read_micros, read_units, read_steps, read_sums, read_carries, read_wholes, read_left, read_phase_left, read_later)
 

@@ -8,9 +8,10 @@ use borrow.Author.Rules.{rules}
 use lib.Pow.{pow_mono, pow_pos}
 use lib.IntN.{ℤ, pos, ◌+ℤ◌, ◌*ℤ◌}
 use lib.Signed.{quot_z, rem_z}
-use lib.Dec.{eqb, lit<}
+use lib.Dec.{eqb, lit<, lt→ltb}
 use borrow.Author.Tests.{eqb-true, eq-eqb}
 use mir.Syntax.{w32}
+use Rattle.std.proofs.lemmas.Int.{quot_fits}
 use mir.Val.{SFits}
 use Rattle.integers.proofs.Parts.{pos_part, neg_part, parts, one_part, pos_part_add, neg_part_add, pos_part_rem, neg_part_rem, sfits_parts}
 use Rattle.integers.proofs.Linear.{self, add}
@@ -32,7 +33,7 @@ div_least n k = omega (arith, mul-div-le n (share_divisor k), mul-le-mul_right (
 pub divisor_pos : (k : ℕ) → 0 < share_divisor k
 divisor_pos k = pow_pos (10 + k)
 
--- the steps by which a frequency is divided fit
+-- the steps by which parts of a phase unit, or a frequency, are divided fit
 pub record Divides (kind : ℕ) (f : ℤ) : Type 0 where
   pub frequency : SFits w32 f
   pub quotient : SFits w32 (quot_z f (pos (device_of kind).divisor))
@@ -55,6 +56,14 @@ module _ (kind : ℕ) (f : ℤ) where
         down = rw neg_part_rem (mod-lt (neg_part f) (unit-pos kind));
       }
 
+  pub divides : SFits w32 f → Divides kind f
+  divides fits =
+      record {
+        frequency = fits;
+        quotient = quot_fits w32 f (pos (device_of kind).divisor) fits (record { lt = lt→ltb 0 (device_of kind).divisor (unit-pos kind) });
+        remainder = sfits_parts (rem_z f (pos (device_of kind).divisor)) (omega (arith, remainder_ok, laws kind));
+      }
+
   module _ (hf : (pos_part f ≤ 1677721600) × (neg_part f ≤ 1677721600)) where
     -- a part of the frequency in phase units a tick
     divided_part : (n : ℕ) → n ≤ 1677721600 → n / (device_of kind).divisor ≤ 1677721600 / (device_of kind).divisor
@@ -63,13 +72,6 @@ module _ (kind : ℕ) (f : ℤ) where
     divided_parts : (pos_part (quot_z f (pos (device_of kind).divisor)) ≤ 1677721600 / (device_of kind).divisor) × (neg_part (quot_z f (pos (device_of kind).divisor)) ≤ 1677721600 / (device_of kind).divisor)
     divided_parts = simp parts (divided_part (pos_part f) hf.0, divided_part (neg_part f) hf.1)
 
-    pub divides : Divides kind f
-    divides =
-        record {
-          frequency = sfits_parts f (omega arith);
-          quotient = sfits_parts (quot_z f (pos (device_of kind).divisor)) (omega (arith, divided_parts, laws kind));
-          remainder = sfits_parts (rem_z f (pos (device_of kind).divisor)) (omega (arith, remainder_ok, laws kind));
-        }
 
 module _ (kind : ℕ) (s f : ℤ) (hs : (pos_part s ≤ 2047984) × (neg_part s ≤ 2047984)) (hf : (pos_part f ≤ 1677721600) × (neg_part f ≤ 1677721600)) where
   abbrev scaled : ℤ
@@ -92,7 +94,7 @@ module _ (kind : ℕ) (s f : ℤ) (hs : (pos_part s ≤ 2047984) × (neg_part s 
   pub adjusts : Adjusts kind s f
   adjusts =
       record {
-        divides = divides kind f hf;
+        divides = divides kind f (sfits_parts f (omega arith));
         share = sfits_parts s (omega arith);
         scaled = sfits_parts scaled (omega (arith, scaled_parts, laws kind));
         both = sfits_parts (scaled +ℤ divided) (omega (arith, both_parts, laws kind));

@@ -15,10 +15,13 @@ use Rattle.state.proofs.Ok.{Ok, ok, ok_back}
 use Rattle.clock.specs.Rollover.{rolled_over}
 use Rattle.clock.specs.Tick.{advanced, micros_grown, rolls_over, tick_of, tick_refusal, ticked}
 use Rattle.clock.specs.Ticks.{ended, one_more, ran_of, catch_up_refusal, catch_up_of, ticks_of}
-use Rattle.clock.specs.Inner.{Within, advance_of, moved_to, less_a_second, jump_of, adds, turn_within, ends_with, TurnOf}
+use Rattle.state.specs.declared.refusal.Refusal.TheVariants.{Last}
+use Rattle.clock.specs.Inner.{Within, advance_of, moved_to, less_a_second, jump_of, adds, ran, end_refusal, ends_run, TurnOf}
 use Rattle.clock.specs.declared.timer.Advance.{Advance}
+use Rattle.clock.specs.declared.jump.Jump.{Jump}
 use Rattle.clock.specs.declared.run.CaughtUp.{CaughtUp}
-use Rattle.clock.specs.declared.run.Turn.{Turn}
+use Rattle.clock.specs.declared.run.End.{End}
+use Rattle.clock.specs.declared.run.End.TheVariants as E
 use Rattle.clock.proofs.TickCases.{TickCase, out, last, plain, rolls, tick_case}
 use Rattle.clock.proofs.TickLaws.{advanced_ok, grown_most}
 use Rattle.clock.proofs.RollLaws.{rolled_ok}
@@ -59,6 +62,10 @@ module _ (c : Clock) (n : ℕ) (stop : Bool) where
 no_stop : (stop : Bool) → stop && false ≡ false
 no_stop true = refl
 no_stop false = refl
+
+all_stop : (stop : Bool) → stop && true ≡ stop
+all_stop true = refl
+all_stop false = refl
 
 -- a tick within the second, of a clock in range
 module _ (c : Clock) (t : in_range c ≡ true) (l : rolls_over c ≡ false) where
@@ -101,127 +108,126 @@ module _ (n j m : ℕ) (c : Clock) (t : in_range c ≡ true) (e : j + suc m ≡ 
   split : (stop : Bool) → ran_of stop n c ≡ adds j (ran_of stop (suc m) here)
   split stop = later_run c k n stop j (suc m) e w
 
-  after_in_range : in_range (tick_of here).clock ≡ true
-  after_in_range = ticked_in_range here here_in_range (tick_case here)
-
   left : n - suc j ≡ m
   left = omega (arith, e)
 
   -- the tick stays within the second
-  plain_turn : rolls_over here ≡ false → TurnOf n c (record { refusal = 0; rolled = false; count = suc j; clock = jumped (suc j) c })
+  plain_turn : rolls_over here ≡ false → TurnOf n c E.Within (suc j) (jumped (suc j) c)
   plain_turn l =
       record {
-        inside = ap in_range (next_jumped c k j w ∙ ap (λ (o : Outcome). o.clock) (sym (plain_tick here here_in_range l))) ∙ after_in_range;
         most = omega (arith, e);
         some = λ h. omega arith;
         run = λ stop.
             split stop ∙ ap (adds j) (plain_run here here_in_range l m stop) ∙ adds_more j (ran_of stop m (stepped here))
-            ∙ rw (no_stop stop, left, next_jumped c k j w);
+            ∙ rw (left, next_jumped c k j w);
       }
 
   -- it rolls over
-  roll_turn : rolls_over here ≡ true → (tick_of here).refusal ≡ 0
-      → TurnOf n c (record { refusal = 0; rolled = true; count = suc j; clock = (tick_of here).clock })
+  roll_turn : rolls_over here ≡ true → (tick_of here).refusal ≡ 0 → TurnOf n c E.Rolled (suc j) (tick_of here).clock
   roll_turn l h =
       record {
-        inside = after_in_range;
         most = omega (arith, e);
         some = λ h. omega arith;
         run = λ stop. split stop ∙ ap (adds j) (run_accepted here m stop h)
-            ∙ adds_more j (cond (stop && rolls_over here) (ended 0 (tick_of here).clock) (ran_of stop m (tick_of here).clock)) ∙ rw (left, l);
+            ∙ adds_more j (cond (stop && rolls_over here) (ended 0 (tick_of here).clock) (ran_of stop m (tick_of here).clock)) ∙ rw (left, l, all_stop stop);
       }
 
-  -- it is refused
-  last_turn : ((tick_of here).refusal ≡ 0 → ⊥)
-      → TurnOf n c (record { refusal = (tick_of here).refusal; rolled = false; count = j; clock = (tick_of here).clock })
+  -- it is refused, since the second is the last of all
+  last_turn : (tick_of here).refusal ≡ 3 → TurnOf n c (E.Refused Last) j (tick_of here).clock
   last_turn h =
+      let some : (tick_of here).refusal ≡ 0 → ⊥ = λ z. absurd (omega (arith, h, z)) in
       record {
-        inside = after_in_range;
         most = omega (arith, e);
-        some = λ z. absurd (h z);
-        run = λ stop. split stop ∙ ap (adds j) (run_refused here m stop h) ∙ simp (ne_eqb (tick_of here).refusal 0 h, refused_kept here h);
+        some = λ z. absurd (omega (arith, z));
+        run = λ stop. split stop ∙ ap (adds j) (run_refused here m stop some) ∙ simp (h, refused_kept here some);
       }
 
--- The same of what the code computes, at a number of ticks j that counts the last: a is where they lead to, b
--- where those before the last lead to.
-module _ (n j : ℕ) (c : Clock) (t : in_range c ≡ true) (some : 0 < j) (most : j ≤ n) (w : Within (j - 1) c) where
+-- The same of what the code computes, of a jump that counts the last tick: a is where it leads to.
+module _ (n : ℕ) (jump : Jump) (some : 0 < jump.ticks) (most : jump.ticks ≤ n) where
+  abbrev j : ℕ
+  j = jump.ticks
+
+  abbrev begin : Clock
+  begin = jump.from.clock
+
+  abbrev before : Clock
+  before = jumped (j - 1) begin
+
+  abbrev known : in_range begin ≡ true
+  known = jump.from.in_range
+
   counted : suc (j - 1) ≡ j
   counted = omega (arith, some)
-
-  jump_eq : jump_of j c ≡ advance_of (jumped (j - 1) c)
-  jump_eq = ap (λ (i : ℕ). jump_of i c) (sym counted) ∙ next_jump c (ok c t) (j - 1) w
 
   rest_eq : j - 1 + suc (n - j) ≡ n
   rest_eq = omega (arith, some, most)
 
-  pub stays_turn : (a : Advance) → a ≡ jump_of j c → a.micros.0 < 1000000 → TurnOf n c (turn_within c a j 0)
-  stays_turn a e less =
-      let h = ap (λ (x : Advance). x.micros.0) (e ∙ jump_eq) in
-      let l : rolls_over (jumped (j - 1) c) ≡ false = lt-leb 1000000 (micros_grown (jumped (j - 1) c)) (omega (arith, less, h)) in
-      rw e (rw counted at (plain_turn n (j - 1) (n - j) c t rest_eq w l))
+  pub before_in_range : in_range before ≡ true
+  before_in_range = here_in_range n (j - 1) (n - j) begin known rest_eq jump.within
 
-  -- the last of the ticks reaches the end of the second
-  module _ (a : Advance) (e : a ≡ jump_of j c) (more : 1000000 ≤ a.micros.0) where
-    abbrev before : Clock
-    before = jumped (j - 1) c
-
-    before_in_range : in_range before ≡ true
-    before_in_range = here_in_range n (j - 1) (n - j) c t rest_eq w
-
+  module _ (a : Advance) (e : a ≡ jump_of j begin) where
     grown : a ≡ advance_of before
-    grown = e ∙ jump_eq
+    grown = e ∙ ap (λ (i : ℕ). jump_of i begin) (sym counted) ∙ next_jump begin (ok begin known) (j - 1) jump.within
 
-    rolls_there : rolls_over before ≡ true
-    rolls_there = le-leb 1000000 (micros_grown before) (omega (arith, more, ap (λ (x : Advance). x.micros.0) grown))
+    grown_micros : a.micros.0 ≡ micros_grown before
+    grown_micros = ap (λ (x : Advance). x.micros.0) grown
 
-    pub rest_in_range : in_range (moved_to c (less_a_second a)) ≡ true
-    rest_in_range =
-        let k = ok before before_in_range in
-        rw grown (ok_back (advanced before (micros_grown before - 1000000)) (advanced_ok before k (omega (arith, grown_most before k))))
+    -- the last of the ticks stays within the second
+    module _ (less : a.micros.0 < 1000000) where
+      pub stays_in_range : in_range (moved_to begin a) ≡ true
+      stays_in_range =
+          let k = ok before before_in_range in
+          let h : micros_grown before ≤ 999999 = omega (arith, less, grown_micros) in
+          rw grown (ok_back (advanced before (micros_grown before)) (advanced_ok before k h))
 
-    module _ (earlier : c.seconds < 4294967295) where
-      tick_rolls : tick_of before ≡ record { refusal = 0; clock = rolled_over (moved_to c (less_a_second a)) }
-      unfolding tick_of tick_refusal ticked
-      tick_rolls = rw grown (simp (before_in_range, rolls_there, ne_eqb c.seconds 4294967295 (λ h. omega arith)))
+      pub stays_turn : {d : Clock} → d ≡ moved_to begin a → TurnOf n begin E.Within j d
+      stays_turn s =
+          let l : rolls_over before ≡ false = lt-leb 1000000 (micros_grown before) (omega (arith, less, grown_micros)) in
+          rw (s, e) (rw counted at (plain_turn n (j - 1) (n - j) begin known rest_eq jump.within l))
 
-      pub rolled_turn : (next : Clock) → next ≡ rolled_over (moved_to c (less_a_second a))
-          → TurnOf n c (record { refusal = 0; rolled = true; count = j; clock = next })
-      rolled_turn next h =
-          let l = roll_turn n (j - 1) (n - j) c t rest_eq w rolls_there (ap (λ (x : Outcome). x.refusal) tick_rolls) in
-          rw h (rw (counted, tick_rolls) at l)
+    -- it reaches the end of the second
+    module _ (more : 1000000 ≤ a.micros.0) where
+      rolls_there : rolls_over before ≡ true
+      rolls_there = le-leb 1000000 (micros_grown before) (omega (arith, more, grown_micros))
 
-    module _ (last : c.seconds ≡ 4294967295) where
-      tick_refused : tick_of before ≡ record { refusal = 3; clock = before }
-      unfolding tick_of tick_refusal
-      tick_refused = simp (before_in_range, rolls_there, eq-eqb c.seconds 4294967295 last)
+      pub rest_in_range : in_range (moved_to begin (less_a_second a)) ≡ true
+      rest_in_range =
+          let k = ok before before_in_range in
+          rw grown (ok_back (advanced before (micros_grown before - 1000000)) (advanced_ok before k (omega (arith, grown_most before k))))
 
-      pub refused_turn : (b : Advance) → b ≡ jump_of (j - 1) c → TurnOf n c (turn_within c b (j - 1) 3)
-      refused_turn b h =
-          let l = last_turn n (j - 1) (n - j) c t rest_eq w (λ z. absurd (omega (arith, ap (λ (x : Outcome). x.refusal) tick_refused, z))) in
-          rw h (rw tick_refused at l)
+      module _ (earlier : begin.seconds < 4294967295) where
+        tick_rolls : tick_of before ≡ record { refusal = 0; clock = rolled_over (moved_to begin (less_a_second a)) }
+        unfolding tick_of tick_refusal ticked
+        tick_rolls = rw grown (simp (before_in_range, rolls_there, ne_eqb begin.seconds 4294967295 (λ h. omega arith)))
 
--- A run of up to n ticks that has `left` of them to come at the clock d, after a turn.
-module _ (stop : Bool) (n left : ℕ) (d : Clock) (t : Turn) (most : left ≤ n) (k : TurnOf left d t) where
-  after_turn : n - left + t.count ≡ n - (left - t.count)
+        pub rolled_turn : {d : Clock} → d ≡ rolled_over (moved_to begin (less_a_second a)) → TurnOf n begin E.Rolled j d
+        rolled_turn h =
+            let l = roll_turn n (j - 1) (n - j) begin known rest_eq jump.within rolls_there (ap (λ (x : Outcome). x.refusal) tick_rolls) in
+            rw h (rw (counted, tick_rolls) at l)
+
+      module _ (last : begin.seconds ≡ 4294967295) where
+        tick_refused : tick_of before ≡ record { refusal = 3; clock = before }
+        unfolding tick_of tick_refusal
+        tick_refused = simp (before_in_range, rolls_there, eq-eqb begin.seconds 4294967295 last)
+
+        pub refused_turn : {d : Clock} → d ≡ before → TurnOf n begin (E.Refused Last) (j - 1) d
+        refused_turn h =
+            let l = last_turn n (j - 1) (n - j) begin known rest_eq jump.within (ap (λ (x : Outcome). x.refusal) tick_refused) in
+            rw h (rw tick_refused at l)
+
+-- A run of up to n ticks that has `left` of them to come at the clock c, after a turn.
+module _ (stop : Bool) (n left : ℕ) (c : Clock) (e : End) (j : ℕ) (d : Clock) (most : left ≤ n) (k : TurnOf left c e j d) where
+  after_turn : n - left + j ≡ n - (left - j)
   after_turn = omega (arith, most, k.most)
 
-  pub run_ends : ends_with stop t ≡ true
-      → adds (n - left) (ran_of stop left d) ≡ record { refusal = 0; count = n - (left - t.count); tick_refusal = t.refusal; clock = t.clock }
-  run_ends e =
-      let z : n - left + (t.count + 0) ≡ n - (left - t.count) = omega (arith, after_turn) in
-      rw (k.run stop, e, z)
+  pub run_ends : ends_run stop e ≡ true → adds (n - left) (ran_of stop left c) ≡ ran (n - (left - j)) (end_refusal e) d
+  run_ends h =
+      let z : n - left + (j + 0) ≡ n - (left - j) = omega (arith, after_turn) in
+      rw (k.run stop, h, z)
 
-  pub run_goes_on : ends_with stop t ≡ false
-      → adds (n - left) (ran_of stop left d) ≡ adds (n - (left - t.count)) (ran_of stop (left - t.count) t.clock)
-  run_goes_on e = rw (k.run stop, e, sym after_turn) (adds_adds (n - left) t.count (ran_of stop (left - t.count) t.clock))
-
-accepted : (stop : Bool) (t : Turn) (b : Bool) → eqb t.refusal 0 ≡ b → ends_with stop t ≡ false → t.refusal ≡ 0
-accepted stop t true h e = eqb-true t.refusal 0 h
-accepted stop t false h e = absurd (true≢false (rw h at e))
-
--- a turn that does not end the run has a tick
-pub turn_some : (stop : Bool) (n : ℕ) (c : Clock) (t : Turn) → TurnOf n c t → ends_with stop t ≡ false → 0 < t.count
-turn_some stop n c t k e = k.some (accepted stop t (eqb t.refusal 0) refl e)
+  pub run_goes_on : ends_run stop e ≡ false
+      → adds (n - left) (ran_of stop left c) ≡ adds (n - (left - j)) (ran_of stop (left - j) d)
+  run_goes_on h = rw (k.run stop, h, sym after_turn) (adds_adds (n - left) j (ran_of stop (left - j) d))
 
 pub run_none : (stop : Bool) (n : ℕ) (c : Clock) → n ≤ 0 → ran_of stop n c ≡ ended 0 c
 unfolding ran_of
@@ -234,19 +240,11 @@ one_tick_most true true n k c d r h = omega arith
 one_tick_most true false n k c d r h = omega (arith, h)
 one_tick_most false stops n k c d r h = omega arith
 
-run_most : (stop : Bool) (n : ℕ) (c : Clock) → (ran_of stop n c).count ≤ n
+pub run_most : (stop : Bool) (n : ℕ) (c : Clock) → (ran_of stop n c).count ≤ n
 unfolding ran_of
 run_most stop zero c = omega arith
 run_most stop (suc n) c =
     one_tick_most (eqb (tick_of c).refusal 0) (stop && rolls_over c) n (tick_of c).refusal c (tick_of c).clock (ran_of stop n (tick_of c).clock) (run_most stop n (tick_of c).clock)
-
-by_refusal : (c : Clock) (n : ℕ) (stop b : Bool) → eqb (catch_up_refusal c n) 0 ≡ b → (catch_up_of c n stop).count ≤ n
-unfolding catch_up_of
-by_refusal c n stop true e = rw e (run_most stop n c)
-by_refusal c n stop false e = rw e (omega arith)
-
-pub catch_up_most : (c : Clock) (n : ℕ) (stop : Bool) {r : CaughtUp} → r ≡ catch_up_of c n stop → r.count ≤ n
-catch_up_most c n stop e = rw e (by_refusal c n stop (eqb (catch_up_refusal c n) 0) refl)
 
 -- Many ticks one after the other, for who counts them singly.
 pub ticks_none : (c : Clock) → in_range c ≡ true → ticks_of 0 c ≡ record { refusal = 0; clock = c }

@@ -6,14 +6,15 @@ use lib.IntN.{ℤ, pos, ◌+ℤ◌, ◌*ℤ◌}
 use lib.Signed.{non_neg}
 use lib.Dec.{T, lit<}
 use mir.Syntax.{w32}
-use mir.Val.{Fits, SFits}
+use mir.Val.{Fits, SFits, to_z, of_z}
+use mir.Facts.{to_z-of_z, to_z_pos}
 use Rattle.integers.proofs.Parts.{pos_part, neg_part, parts, sfits_parts, abs_parts, non_neg_parts, pos_part_add, neg_part_add, pos_part_quot, neg_part_quot, times_pos_part, times_neg_part}
 use Rattle.integers.proofs.Carrying.{rest_lt}
 use Rattle.state.specs.Device.{device_of}
 use Rattle.state.specs.declared.state.Clock.{Clock}
 use Rattle.state.proofs.Ok.{Ok}
 use Rattle.clock.specs.Tick.{phase_sum, carry, phase_left, micros_grown, advanced}
-use Rattle.clock.proofs.UnitLaws.{unit_parts, left_within}
+use Rattle.clock.proofs.UnitLaws.{unit_parts, left_within, read_unit}
 
 module _ (c : Clock) (k : Ok c) where
   pub fits_phase : SFits w32 c.phase.0
@@ -75,3 +76,34 @@ module _ (c : Clock) (k : Ok c) where
 
   pub advanced_ok : {us : ℕ} → us ≤ 999999 → Ok (advanced c us)
   advanced_ok h = search (left_parts, left_within c k)
+
+  -- The steps are read back as they are.
+  pub read_phase : to_z w32 (of_z w32 c.phase.0) ≡ c.phase.0
+  read_phase = to_z-of_z fits_phase
+
+  pub read_adjustment : to_z w32 (of_z w32 c.adjustment.0) ≡ c.adjustment.0
+  read_adjustment = to_z-of_z fits_adjustment
+
+  pub read_both : to_z w32 (of_z w32 (c.phase.0 +ℤ c.adjustment.0)) ≡ c.phase.0 +ℤ c.adjustment.0
+  read_both = to_z-of_z fits_both
+
+  pub read_sum : to_z w32 (of_z w32 (phase_sum c)) ≡ phase_sum c
+  read_sum = to_z-of_z fits_sum
+
+  pub read_carry : to_z w32 (of_z w32 (carry c)) ≡ carry c
+  read_carry = to_z-of_z fits_carry
+
+  pub read_whole : to_z w32 (of_z w32 (carry c *ℤ pos 268435456)) ≡ carry c *ℤ pos 268435456
+  read_whole = to_z-of_z fits_whole
+
+  pub read_left : to_z w32 (of_z w32 (phase_left c)) ≡ phase_left c
+  read_left = to_z-of_z fits_left
+
+  pub read_micros : to_z w32 (c.micros.0 + (device_of c.kind).tick.0) ≡ pos (c.micros.0 + (device_of c.kind).tick.0)
+  read_micros = to_z_pos w32 fits_micros.sfits
+
+  pub read_after : to_z w32 (of_z w32 after) ≡ after
+  read_after = to_z-of_z fits_after
+
+-- What the code computes of a tick is read back as it is.
+pub ruleset tickReads = (read_phase, read_adjustment, read_both, read_unit, read_sum, read_carry, read_whole, read_left, read_micros, read_after)

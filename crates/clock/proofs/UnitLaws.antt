@@ -5,16 +5,17 @@ use mathlib.Core.Bool.{Bool, true, false}
 use Prim.Native.Nat.{ℕ, ◌+◌, ◌-◌, ◌*◌, ◌/◌, ◌≤◌, ◌<◌}
 use native.Mathlib.Nat.{div-eq_of_lt, mul-add-div_right, mul-le-mul_right}
 use native.Mathlib.Omega.{arith}
-use lib.IntN.{ℤ, pos, neg_ℤ, ◌-ℤ◌, ◌*ℤ◌}
+use lib.IntN.{ℤ, pos, neg_ℤ, ◌-ℤ◌, ◌*ℤ◌, +ℤ_idl}
 use lib.Signed.{le_z, quot_z}
 use mir.Syntax.{w32}
-use mir.Val.{SFits, to_z, bool_byte}
+use mir.Val.{SFits, to_z, of_z, bool_byte}
+use mir.Facts.{to_z-of_z}
 use Rattle.integers.proofs.Parts.{pos_part, neg_part, parts, one_part, eq_parts, sfits_parts, pos_part_add, neg_part_add, pos_part_neg, neg_part_neg, pos_part_quot, neg_part_quot, le_parts, not_le_parts}
 use Rattle.integers.proofs.Carrying.{rest, rest_lt}
 use Rattle.state.specs.Device.{device_of}
 use Rattle.state.specs.declared.device.Device.{Device}
 use Rattle.state.specs.declared.state.Clock.{Clock}
-use Rattle.state.proofs.DeviceLaws.{divisor_pos}
+use Rattle.state.proofs.DeviceLaws.{divisor_pos, fits_divisor}
 use Rattle.state.proofs.Ok.{Parts, Ok}
 use Rattle.clock.specs.Tick.{leftover_sum, unit_in, unit_reached, leftover_left}
 
@@ -111,3 +112,31 @@ module _ (c : Clock) (k : Ok c) where
 
   pub fits_parts_left : SFits w32 (leftover_left c)
   fits_parts_left = sfits_parts (leftover_left c) (omega (arith, left_within))
+
+  -- .. and are read back as they are
+  pub read_leftover : to_z w32 (of_z w32 c.leftover.0) ≡ c.leftover.0
+  read_leftover = to_z-of_z fits_leftover
+
+  pub read_remainder : to_z w32 (of_z w32 c.remainder.0) ≡ c.remainder.0
+  read_remainder = to_z-of_z fits_remainder
+
+  pub read_divisor : to_z w32 (of_z w32 (pos device.divisor)) ≡ pos device.divisor
+  read_divisor = to_z-of_z (fits_divisor c.kind)
+
+  pub read_minus : to_z w32 (of_z w32 (pos 0 -ℤ pos device.divisor)) ≡ neg_ℤ (pos device.divisor)
+  read_minus = rw (+ℤ_idl (neg_ℤ (pos device.divisor))) (to_z-of_z fits_minus)
+
+  pub read_parts : to_z w32 (of_z w32 (leftover_sum c)) ≡ leftover_sum c
+  read_parts = to_z-of_z fits_parts
+
+  pub read_unit : to_z w32 (of_z w32 (unit_reached c)) ≡ unit_reached c
+  read_unit = to_z-of_z fits_unit
+
+  pub read_whole_unit : to_z w32 (of_z w32 (unit_reached c *ℤ pos device.divisor)) ≡ unit_reached c *ℤ pos device.divisor
+  read_whole_unit = to_z-of_z fits_whole_unit
+
+  pub read_parts_left : to_z w32 (of_z w32 (leftover_left c)) ≡ leftover_left c
+  read_parts_left = to_z-of_z fits_parts_left
+
+-- What the code computes of a unit is read back as it is.
+pub ruleset unitReads = (read_leftover, read_remainder, read_divisor, read_minus, read_parts, unit_tests, read_unit, read_whole_unit, read_parts_left)

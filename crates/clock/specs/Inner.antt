@@ -1,35 +1,39 @@
 -- What the crate's private functions answer, in the terms of the rules. No public promise names these.
-use Rattle.std.specs.Prelude.{ℕ, ◌+◌, ◌-◌, ◌*◌, ◌/◌, ◌≤◌, ◌<◌, ◌≡◌, Bool, true, false, ◌&&◌, ◌||◌, not, cond, eqb, ℤ, pos, nat_abs, ◌+ℤ◌, ◌-ℤ◌, ◌*ℤ◌}
+use Rattle.std.specs.Prelude.{ℕ, ◌+◌, ◌-◌, ◌*◌, ◌/◌, ◌≤◌, ◌<◌, ◌≡◌, Bool, true, false, cond, ℤ, pos, nat_abs, ◌+ℤ◌, ◌-ℤ◌, ◌*ℤ◌}
 use Rattle.std.specs.Int.Signed.{quot_z, rem_z}
 use Rattle.state.specs.Units.{micros, phase_units, phase_parts, offset_units_per_micro, phase_units_per_micro, micros_per_second}
 use Rattle.state.specs.Device.{device_of}
-use Rattle.state.specs.State.{greatest_offset, in_range, last_micro}
+use Rattle.state.specs.State.{greatest_offset, last_micro}
+use Rattle.state.specs.Refusal.{refusal_number}
 use Rattle.state.specs.Inner.{longest_tick}
 use Rattle.state.specs.declared.device.Device.{Device}
+use Rattle.state.specs.declared.units.PhaseUnits.{PhaseUnits}
+use Rattle.state.specs.declared.units.PhaseParts.{PhaseParts}
 use Rattle.state.specs.declared.state.Clock.{Clock}
 use Rattle.clock.specs.Rollover.{share_divisor, division, adjustment_for, leap_seconds, leap_status}
 use Rattle.clock.specs.Tick.{unit_reached, leftover_left, phase_left, micros_grown, moved}
 use Rattle.clock.specs.Ticks.{ended, ran_of}
-use Rattle.clock.specs.declared.rollover.Increments.{Increments}
+use Rattle.clock.specs.declared.divided.Divided.{Divided}
 use Rattle.clock.specs.declared.rollover.Leap.{Leap}
-use Rattle.clock.specs.declared.timer.Reached.{Reached}
 use Rattle.clock.specs.declared.timer.Advance.{Advance}
 use Rattle.clock.specs.declared.run.CaughtUp.{CaughtUp}
-use Rattle.clock.specs.declared.run.Turn.{Turn}
+use Rattle.clock.specs.declared.run.End.{End}
+use Rattle.clock.specs.declared.run.End.TheVariants as E
 
 -- the size of the greatest share, of the greatest offset at time constant 0 (offset units)
 abbrev pub greatest_share : ℕ
 greatest_share = greatest_offset * offset_units_per_micro / share_divisor 0
 
--- what each tick adds, of a share and a frequency
-abbrev pub increments_for : Device → ℤ → ℤ → Increments
-increments_for d s f = record { adjustment = phase_units (adjustment_for d s f); remainder = (division d f).remainder }
+-- what each tick adds to the phase and to the leftover, of a share and a frequency
+abbrev pub increments_for : Device → ℤ → ℤ → PhaseUnits × PhaseParts
+increments_for d s f = (phase_units (adjustment_for d s f), (division d f).remainder)
 
 abbrev pub leap_of : ℕ → ℕ → Leap
 leap_of status s = record { seconds = leap_seconds status s; status = leap_status status s }
 
-abbrev pub reached_of : Clock → Reached
-reached_of c = record { units = phase_units (unit_reached c); leftover = phase_parts (leftover_left c) }
+-- the unit that the leftover reaches by a tick, and what is left of it
+abbrev pub reached_of : Clock → Divided
+reached_of c = record { quotient = phase_units (unit_reached c); remainder = phase_parts (leftover_left c) }
 
 abbrev pub advance_of : Clock → Advance
 advance_of c =
@@ -60,8 +64,8 @@ units_reached j c = quot_z (leftover_sums j c) (pos (device_of c.kind).divisor)
 abbrev pub leftover_later : ℕ → Clock → ℤ
 leftover_later j c = rem_z (leftover_sums j c) (pos (device_of c.kind).divisor)
 
-abbrev pub reached_after : ℕ → Clock → Reached
-reached_after j c = record { units = phase_units (units_reached j c); leftover = phase_parts (leftover_later j c) }
+abbrev pub reached_after : ℕ → Clock → Divided
+reached_after j c = division (device_of c.kind) (leftover_sums j c)
 
 -- the phase with these units and j adjustments (phase units)
 abbrev pub phase_sums : ℕ → Clock → ℤ
@@ -92,20 +96,26 @@ Within j c = phase_units_per_micro * c.micros.0 + longest_tick (device_of c.kind
 abbrev pub adds : ℕ → CaughtUp → CaughtUp
 adds k r = record { refusal = r.refusal; count = k + r.count; tick_refusal = r.tick_refusal; clock = r.clock }
 
--- a turn of so many ticks, refused or not, that ends within its second at a
-abbrev pub turn_within : Clock → Advance → ℕ → ℕ → Turn
-turn_within c a count refusal =
-    record { refusal = refusal; rolled = false; count = count; clock = moved_to c a }
+-- k accepted ticks, to c, and a tick that is refused with this number, or none (it is 0)
+abbrev pub ran : ℕ → ℕ → Clock → CaughtUp
+ran k refusal c = record { refusal = 0; count = k; tick_refusal = refusal; clock = c }
 
--- whether a run ends with this turn, before its ceiling
-abbrev pub ends_with : Bool → Turn → Bool
-ends_with stop t = not (eqb t.refusal 0) || (stop && t.rolled)
+-- the number of the refusal before which a turn ends, or 0
+abbrev pub end_refusal : End → ℕ
+end_refusal E.Within = 0
+end_refusal E.Rolled = 0
+end_refusal (E.Refused r) = refusal_number r
 
--- t is a turn of a run of up to n ticks of c: its first ticks, none after one that rolls over, and the tick
--- that is refused, if one is.
-pub record TurnOf (n : ℕ) (c : Clock) (t : Turn) : Type 0 where
-  pub inside : in_range t.clock ≡ true
-  pub most : t.count ≤ n
-  pub some : t.refusal ≡ 0 → 0 < t.count
+-- whether a run ends with a turn that ends so, before its ceiling
+abbrev pub ends_run : Bool → End → Bool
+ends_run stop E.Within = false
+ends_run stop E.Rolled = stop
+ends_run stop (E.Refused r) = true
+
+-- k ticks to d that end so are a turn of a run of up to n ticks of c: its first ticks, none after one that
+-- rolls over, nor after one that is refused.
+pub record TurnOf (n : ℕ) (c : Clock) (e : End) (k : ℕ) (d : Clock) : Type 0 where
+  pub most : k ≤ n
+  pub some : end_refusal e ≡ 0 → 0 < k
   pub run : (stop : Bool)
-      → ran_of stop n c ≡ adds t.count (cond (ends_with stop t) (ended t.refusal t.clock) (ran_of stop (n - t.count) t.clock))
+      → ran_of stop n c ≡ adds k (cond (ends_run stop e) (ended (end_refusal e) d) (ran_of stop (n - k) d))

@@ -7,7 +7,7 @@ use Rattle.state.specs.Device.{device_of}
 use Rattle.state.specs.State.{greatest_error, longest_interval, status_ok, status_ins, status_del, status_oop, tuning_of, whole}
 use Rattle.state.specs.declared.device.Device.{Device}
 use Rattle.state.specs.declared.state.Clock.{Clock}
-use Rattle.clock.specs.declared.rollover.Divided.{Divided}
+use Rattle.clock.specs.declared.divided.Divided.{Divided}
 
 -- README.kern's tolerance of 100 ppm: what a second may add to the maximum error (us)
 abbrev pub tolerance : ℕ

@@ -5,7 +5,7 @@ use state::{Clock, Micros, REFUSED_STATE, TIME_BAD, in_range};
 
 // What a clock shows.
 #[repr(C)]
-#[derive(Clone, Copy)]
+#[derive(Clone, Copy, Debug, PartialEq, Eq)]
 pub struct Reading {
     pub seconds: u32,
     pub micros: Micros,
@@ -16,7 +16,7 @@ pub struct Reading {
 
 // The answer of a reading: refusal 0 with what the clock shows, or refusal 1 with zeros and status 4.
 #[repr(C)]
-#[derive(Clone, Copy)]
+#[derive(Clone, Copy, Debug, PartialEq, Eq)]
 pub struct Told {
     pub refusal: u8,
     pub reading: Reading,
@@ -27,30 +27,25 @@ pub fn read(c: Clock) -> Told
     ensures { result ≡ told_of c }
 {
     if !in_range(c) {
-        let none = Reading {
-            seconds: 0,
-            micros: Micros(0),
-            status: TIME_BAD,
-            maxerror: Micros(0),
-            esterror: Micros(0),
-        };
         return Told {
             refusal: REFUSED_STATE,
-            reading: none,
+            reading: Reading {
+                seconds: 0,
+                micros: Micros(0),
+                status: TIME_BAD,
+                maxerror: Micros(0),
+                esterror: Micros(0),
+            },
         };
     }
-    let micros = c.micros;
-    let maxerror = c.maxerror;
-    let esterror = c.esterror;
-    let shown = Reading {
-        seconds: c.seconds,
-        micros: micros,
-        status: c.status,
-        maxerror: maxerror,
-        esterror: esterror,
-    };
     Told {
         refusal: 0,
-        reading: shown,
+        reading: Reading {
+            seconds: c.seconds,
+            micros: c.micros,
+            status: c.status,
+            maxerror: c.maxerror,
+            esterror: c.esterror,
+        },
     }
 }

@@ -8,7 +8,7 @@ use clock::{
 use request::{Request, adjust};
 
 // A single call on a clock.
-#[derive(Clone, Copy)]
+#[derive(Clone, Copy, Debug, PartialEq, Eq)]
 pub enum Call {
     Tick,
     // the seconds and the microseconds to set
@@ -18,7 +18,7 @@ pub enum Call {
 }
 
 // What can happen to a clock.
-#[derive(Clone, Copy)]
+#[derive(Clone, Copy, Debug, PartialEq, Eq)]
 pub enum Event {
     Call(Call),
     // many ticks in one call: the ceiling, and whether to stop after the tick that rolls the second over
@@ -28,8 +28,9 @@ pub enum Event {
 // The answer of an event: refusal 0 where it was accepted, else its number in the table of refusals; the
 // clock after it; and what the clock shows where the event is an accepted reading, else zeros and status 4.
 // Of a catch-up also how many ticks were accepted, and the refusal of the tick that ended them, or 0; of a
-// single call both are 0.
-#[derive(Clone, Copy)]
+// single call both are 0. A struct and no Result: `Answers` of bounds/specs/Calls.antt, over which the theorem
+// `demand3` is stated, has the clock of a refused event too.
+#[derive(Clone, Copy, Debug, PartialEq, Eq)]
 pub struct Stepped {
     pub refusal: u8,
     pub count: u64,
@@ -53,31 +54,33 @@ pub fn no_reading() -> Reading
     NO_READING
 }
 
-fn step_with(o: Outcome) -> Stepped
-    ensures { result ≡ step_with o }
-{
-    let clock = o.clock;
-    let reading = NO_READING;
-    Stepped {
-        refusal: o.refusal,
-        count: 0,
-        tick_refusal: 0,
-        clock: clock,
-        reading: reading,
+// The answer of a tick, a setting or a request.
+impl From<Outcome> for Stepped {
+    ghost from_gives = { λ o s. s ≡ step_with o };
+
+    fn from(o: Outcome) -> Self {
+        Stepped {
+            refusal: o.refusal,
+            count: 0,
+            tick_refusal: 0,
+            clock: o.clock,
+            reading: NO_READING,
+        }
     }
 }
 
-fn step_many(m: CaughtUp) -> Stepped
-    ensures { result ≡ step_many m }
-{
-    let clock = m.clock;
-    let reading = NO_READING;
-    Stepped {
-        refusal: m.refusal,
-        count: m.count,
-        tick_refusal: m.tick_refusal,
-        clock: clock,
-        reading: reading,
+// The answer of many ticks in one call.
+impl From<CaughtUp> for Stepped {
+    ghost from_gives = { λ m s. s ≡ step_many m };
+
+    fn from(m: CaughtUp) -> Self {
+        Stepped {
+            refusal: m.refusal,
+            count: m.count,
+            tick_refusal: m.tick_refusal,
+            clock: m.clock,
+            reading: NO_READING,
+        }
     }
 }
 
@@ -85,18 +88,17 @@ fn step_call(c: Clock, call: Call) -> Stepped
     ensures { result ≡ answer_of c call }
 {
     match call {
-        Call::Tick => step_with(tick(c)),
-        Call::Setting(seconds, micros) => step_with(set(c, seconds, micros)),
-        Call::Request(r) => step_with(adjust(c, r)),
+        Call::Tick => tick(c).into(),
+        Call::Setting(seconds, micros) => set(c, seconds, micros).into(),
+        Call::Request(r) => adjust(c, r).into(),
         Call::Reading => {
             let told = read(c);
-            let reading = told.reading;
             Stepped {
                 refusal: told.refusal,
                 count: 0,
                 tick_refusal: 0,
                 clock: c,
-                reading: reading,
+                reading: told.reading,
             }
         }
     }
@@ -108,6 +110,6 @@ pub fn step(c: Clock, e: Event) -> Stepped
 {
     match e {
         Event::Call(call) => step_call(c, call),
-        Event::CatchUp(ceiling, stop) => step_many(catch_up(c, ceiling, stop)),
+        Event::CatchUp(ceiling, stop) => catch_up(c, ceiling, stop).into(),
     }
 }

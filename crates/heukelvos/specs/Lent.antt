@@ -3,7 +3,6 @@ use Rattle.std.specs.Prelude.{◌≡◌, false, ℕ, eqb}
 use Rattle.state.specs.declared.state.Clock.{Clock}
 use Rattle.clock.specs.declared.run.CaughtUp.{CaughtUp}
 use Rattle.heukelvos.specs.declared.lent.Counted.{Counted}
-use Rattle.heukelvos.specs.declared.lent.CountedClock.{CountedClock}
 
 -- "A refused call hands back the state it got": where the refusal is not 0, what was lent is as it was. It
 -- follows from what the lent clock is said to hold, and is what a handler rests on.
@@ -13,7 +12,3 @@ Kept refusal before after = eqb refusal 0 ≡ false → after ≡ before
 -- what a catch-up answers, without the clock
 abbrev pub counted : CaughtUp → Counted
 counted r = record { refusal = r.refusal; count = r.count; tick_refusal = r.tick_refusal }
-
--- the same and the clock, apart
-abbrev pub parted : CaughtUp → CountedClock
-parted r = record { answer = counted r; clock = r.clock }

@@ -3,9 +3,9 @@
 ghost use Rattle.std.specs.Prelude.{◌≡◌};
 ghost use Rattle.clock.specs.Tick.{tick_of};
 ghost use Rattle.clock.specs.Ticks.{catch_up_of};
-ghost use Rattle.heukelvos.specs.Lent.{Kept, counted, parted};
+ghost use Rattle.heukelvos.specs.Lent.{Kept, counted};
 
-use clock::Clock;
+use clock::{CaughtUp, Clock};
 
 // One tick.
 #[unsafe(no_mangle)]
@@ -22,35 +22,24 @@ pub extern "C" fn heukelvos_tick_in_place(c: &mut Clock) -> u8
 }
 
 // What a catch-up answers beside the clock: the refusal of the call, how many ticks were accepted, and the
-// refusal of the tick that ended them, or 0.
+// refusal of the tick that ended them, or 0. Its refusals are numbers, since C reads it by value.
 #[repr(C)]
-#[derive(Clone, Copy)]
+#[derive(Clone, Copy, Debug, PartialEq, Eq)]
 pub struct Counted {
     pub refusal: u8,
     pub count: u64,
     pub tick_refusal: u8,
 }
 
-#[derive(Clone, Copy)]
-struct CountedClock {
-    answer: Counted,
-    clock: Clock,
-}
+impl From<CaughtUp> for Counted {
+    ghost from_gives = { λ r answer. answer ≡ counted r };
 
-// A catch-up by value, its answer apart from the clock; it takes no reference, so that only the lent clock is
-// left to a proof by hand.
-fn caught_up(c: Clock, ceiling: u64, stop: bool) -> CountedClock
-    ensures { result ≡ parted (catch_up_of c ceiling stop) }
-{
-    let r = clock::catch_up(c, ceiling, stop);
-    let next = r.clock;
-    CountedClock {
-        answer: Counted {
+    fn from(r: CaughtUp) -> Self {
+        Counted {
             refusal: r.refusal,
             count: r.count,
             tick_refusal: r.tick_refusal,
-        },
-        clock: next,
+        }
     }
 }
 
@@ -61,9 +50,9 @@ pub extern "C" fn heukelvos_catch_up_in_place(c: &mut Clock, ceiling: u64, stop:
         × (c.new ≡ (catch_up_of c.old ceiling stop).clock)
         × Kept result.refusal c.old c.new }
 {
-    let done = caught_up(*c, ceiling, stop);
-    if done.answer.refusal == 0 {
+    let done = clock::catch_up(*c, ceiling, stop);
+    if done.refusal == 0 {
         *c = done.clock;
     }
-    done.answer
+    done.into()
 }

@@ -7,6 +7,8 @@ use borrow.Author.Rules.{rules}
 use lib.Dec.{ltb, eqb, lit<}
 use borrow.Author.Tests.{ltb-false, not-false}
 use lib.IntN.{ℤ, pos, ◌*ℤ◌}
+use Rattle.std.specs.Prelude.{Some, None}
+use Rattle.std.specs.Bool.{then_some}
 use Rattle.integers.proofs.Parts.{pos_part, neg_part, parts}
 use Rattle.integers.proofs.Ranges.{and_true, within_parts, between_parts}
 use Rattle.state.specs.State.{in_range, within, strictly_within, greatest_offset, greatest_frequency, greatest_constant, greatest_error, status_ok, status_bad}
@@ -36,6 +38,16 @@ most_if false n x e t = absurd (true≢false (sym t))
 or_false : (a b : Bool) → a || b ≡ false → (a ≡ false) × (b ≡ false)
 or_false true b e = absurd (true≢false e)
 or_false false b e = (refl, e)
+
+-- a field that is asked for is selected, and is the one that was picked
+pub chosen : {T : Type 0} (b : Bool) (x y : T) → then_some b x ≡ Some y → (b ≡ true) × (y ≡ x)
+chosen true x y e = (refl, cc)
+chosen false x y e = absurd (cc)
+
+-- a field that is not there is not selected
+pub passed : {T : Type 0} (b : Bool) (x : T) → then_some b x ≡ None → b ≡ false
+passed true x e = absurd (cc)
+passed false x e = refl
 
 pub record Accepted (c : Clock) (r : Request) : Type 0 where
   pub clock : Ok c

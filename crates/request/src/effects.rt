@@ -1,132 +1,109 @@
-ghost use Rattle.std.specs.Prelude.{◌≡◌, true, cond, ◌≤◌};
-ghost use Rattle.state.specs.Units.{micros, offset_units, frequency_units};
-ghost use Rattle.state.specs.State.{greatest_error, status_bad};
-ghost use Rattle.request.specs.Request.{request_refusal, frequency_written, constant_written, status_written, offset_after, frequency_after, status_after, interval_after, requested};
+// What a request that is not refused does to its clock.
+ghost use Rattle.std.specs.Prelude.{◌≡◌, MatchResult};
+ghost use Rattle.state.specs.Units.{frequency_units};
+ghost use Rattle.state.specs.Refusal.{refusal_number};
+ghost use Rattle.request.specs.Request.{request_refusal, frequency_written, maxerror_written, esterror_written, constant_written, status_written, status_after, requested};
 
 use crate::gain::{clamped_sum, gain_of};
-use crate::refusal::is_set;
+use crate::refusal::judged;
 use crate::request::{
     ADJ_ESTERROR, ADJ_FREQUENCY, ADJ_MAXERROR, ADJ_OFFSET, ADJ_STATUS, ADJ_TIMECONST, Request,
 };
-use state::{
-    AskedMicros, Clock, Frequency, Micros, OFFSET_PER_MICRO, OffsetUnits, TIME_BAD, TIME_OK,
-};
+use state::{Clock, Frequency, Micros, OFFSET_PER_MICRO, OffsetUnits, Refusal, TIME_BAD, TIME_OK};
 
 // The status BAD as a request asks for it.
 const BAD: u64 = TIME_BAD as u64;
 
-fn frequency_written(c: Clock, r: Request) -> Frequency
-    requires { request_refusal c r ≡ 0 }
-    ensures { result ≡ frequency_units (frequency_written c r) }
-{
-    if is_set(r.mode, ADJ_FREQUENCY) {
-        return Frequency(r.frequency.0 as i32);
+// A request that its clock does not refuse. Only `Granted::new` makes one, so that the effects need no test.
+#[derive(Clone, Copy)]
+pub(crate) struct Granted {
+    clock: Clock,
+    request: Request,
+    ghost not_refused: { request_refusal clock request ≡ 0 },
+}
+
+impl Granted {
+    pub(crate) fn new(clock: Clock, request: Request) -> Result<Self, Refusal>
+        ensures { MatchResult result (λ g. (g.clock ≡ clock) × (g.request ≡ request))
+            (λ refusal. refusal_number refusal ≡ request_refusal clock request) }
+    {
+        judged(clock, request)?;
+        Ok(Granted { clock, request })
     }
-    c.frequency
-}
 
-fn error_written(selected: bool, asked: AskedMicros, present: Micros) -> Micros
-    requires { selected ≡ true → asked.0 ≤ greatest_error }
-    ensures { result ≡ cond selected (micros asked.0) present }
-{
-    if selected {
-        return Micros(asked.0 as u32);
+    fn frequency_written(self) -> Frequency
+        ensures { result ≡ frequency_units (frequency_written self.clock self.request) }
+    {
+        match self.request.selected(ADJ_FREQUENCY, self.request.frequency) {
+            Some(f) => Frequency(f.0 as i32),
+            None => self.clock.frequency,
+        }
     }
-    present
-}
 
-// A status, a time constant or the flag of an earlier update: each is at most 4.
-fn number_written(written: bool, asked: u64, present: u8) -> u8
-    requires { written ≡ true → asked ≤ status_bad }
-    ensures { result ≡ cond written asked present }
-{
-    if written {
-        return asked as u8;
+    fn maxerror_written(self) -> Micros
+        ensures { result ≡ maxerror_written self.clock self.request }
+    {
+        let asked = self.request.selected(ADJ_MAXERROR, self.request.maxerror);
+        asked.map_or(self.clock.maxerror, |us| Micros(us.0 as u32))
     }
-    present
-}
 
-fn status_written(c: Clock, r: Request) -> u8
-    requires { request_refusal c r ≡ 0 }
-    ensures { result ≡ status_written c r }
-{
-    let written = is_set(r.mode, ADJ_STATUS) & ((c.status == TIME_OK) | (r.status == BAD));
-    number_written(written, r.status, c.status)
-}
-
-fn constant_written(c: Clock, r: Request) -> u8
-    requires { request_refusal c r ≡ 0 }
-    ensures { result ≡ constant_written c r }
-{
-    number_written(is_set(r.mode, ADJ_TIMECONST), r.constant, c.constant)
-}
-
-fn offset_after(c: Clock, r: Request) -> OffsetUnits
-    requires { request_refusal c r ≡ 0 }
-    ensures { result ≡ offset_units (offset_after c r) }
-{
-    if is_set(r.mode, ADJ_OFFSET) {
-        return OffsetUnits(r.offset.0 as i32 * OFFSET_PER_MICRO);
+    fn esterror_written(self) -> Micros
+        ensures { result ≡ esterror_written self.clock self.request }
+    {
+        let asked = self.request.selected(ADJ_ESTERROR, self.request.esterror);
+        asked.map_or(self.clock.esterror, |us| Micros(us.0 as u32))
     }
-    c.offset
-}
 
-fn frequency_after(c: Clock, r: Request) -> Frequency
-    requires { request_refusal c r ≡ 0 }
-    ensures { result ≡ frequency_units (frequency_after c r) }
-{
-    let f = frequency_written(c, r);
-    if is_set(r.mode, ADJ_OFFSET) {
-        let constant = constant_written(c, r);
-        let g = gain_of(r.offset, c.interval, constant);
-        return clamped_sum(f, g);
+    fn status_written(self) -> u8
+        ensures { result ≡ status_written self.clock self.request }
+    {
+        match self.request.selected(ADJ_STATUS, self.request.status) {
+            Some(status) if (self.clock.status == TIME_OK) | (status == BAD) => status as u8,
+            _ => self.clock.status,
+        }
     }
-    f
-}
 
-fn status_after(c: Clock, r: Request) -> u8
-    requires { request_refusal c r ≡ 0 }
-    ensures { result ≡ status_after c r }
-{
-    let s = status_written(c, r);
-    let bad = is_set(r.mode, ADJ_STATUS) & (r.status == BAD);
-    if is_set(r.mode, ADJ_OFFSET) & (s == TIME_BAD) & !bad {
-        return TIME_OK;
+    fn constant_written(self) -> u8
+        ensures { result ≡ constant_written self.clock self.request }
+    {
+        let asked = self.request.selected(ADJ_TIMECONST, self.request.constant);
+        asked.map_or(self.clock.constant, |constant| constant as u8)
     }
-    s
-}
 
-fn interval_after(c: Clock, r: Request) -> u32
-    ensures { result ≡ interval_after c r }
-{
-    if is_set(r.mode, ADJ_OFFSET) {
-        return 0;
+    fn status_after(self) -> u8
+        ensures { result ≡ status_after self.clock self.request }
+    {
+        let s = self.status_written();
+        let bad = self.request.selects(ADJ_STATUS) & (self.request.status == BAD);
+        if self.request.selects(ADJ_OFFSET) & (s == TIME_BAD) & !bad {
+            return TIME_OK;
+        }
+        s
     }
-    c.interval
-}
 
-// The clock with every effect of a request that is not refused.
-pub(crate) fn requested_of(c: Clock, r: Request) -> Clock
-    requires { request_refusal c r ≡ 0 }
-    ensures { result ≡ requested c r }
-{
-    let offset = offset_after(c, r);
-    let frequency = frequency_after(c, r);
-    let constant = constant_written(c, r);
-    let updated = number_written(is_set(r.mode, ADJ_OFFSET), 1, c.updated);
-    let interval = interval_after(c, r);
-    let maxerror = error_written(is_set(r.mode, ADJ_MAXERROR), r.maxerror, c.maxerror);
-    let esterror = error_written(is_set(r.mode, ADJ_ESTERROR), r.esterror, c.esterror);
-    let status = status_after(c, r);
-    Clock {
-        offset: offset,
-        frequency: frequency,
-        constant: constant,
-        updated: updated,
-        interval: interval,
-        maxerror: maxerror,
-        esterror: esterror,
-        status: status,
-        ..c
+    // The clock with every effect of the request: of an offset last, since its gain takes the frequency and the
+    // time constant that the request wrote.
+    pub(crate) fn requested(self) -> Clock
+        ensures { result ≡ requested self.clock self.request }
+    {
+        let written = Clock {
+            frequency: self.frequency_written(),
+            constant: self.constant_written(),
+            maxerror: self.maxerror_written(),
+            esterror: self.esterror_written(),
+            status: self.status_after(),
+            ..self.clock
+        };
+        let Some(offset) = self.request.selected(ADJ_OFFSET, self.request.offset) else {
+            return written;
+        };
+        let gain = gain_of(offset, written.interval, written.constant);
+        Clock {
+            offset: OffsetUnits(offset.0 as i32 * OFFSET_PER_MICRO),
+            frequency: clamped_sum(written.frequency, gain),
+            updated: 1,
+            interval: 0,
+            ..written
+        }
     }
 }

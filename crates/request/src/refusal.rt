@@ -1,5 +1,8 @@
-ghost use Rattle.std.specs.Prelude.{◌≡◌, ◌<◌};
-ghost use Rattle.request.specs.Request.{bit_set, offset_outside, frequency_outside, maxerror_above, esterror_above, status_above, constant_above, offset_too_soon, request_refusal};
+// What is refused of a request, and with which number.
+ghost use Rattle.std.specs.Prelude.{◌≡◌, ◌<◌, ◌&&◌, ltb};
+ghost use Rattle.std.specs.Bool.{then_some};
+ghost use Rattle.state.specs.Refusal.{refusal_of};
+ghost use Rattle.request.specs.Request.{bit_set, offset_outside, frequency_outside, offset_too_soon, request_refusal};
 
 use crate::limits::{
     FREQUENCY_LOWER_END, FREQUENCY_UPPER_END, MAX_CONSTANT, MAX_ERROR, MAX_MODE, MAX_OFFSET,
@@ -9,53 +12,44 @@ use crate::request::{
     ADJ_ESTERROR, ADJ_FREQUENCY, ADJ_MAXERROR, ADJ_OFFSET, ADJ_STATUS, ADJ_TIMECONST, MIN_INTERVAL,
     Request,
 };
-use state::{
-    Clock, REFUSED_CONSTANT, REFUSED_ERROR, REFUSED_FREQUENCY, REFUSED_MODE, REFUSED_OFFSET,
-    REFUSED_SOON, REFUSED_STATE, REFUSED_STATUS, in_range,
-};
+use state::{Clock, Refusal, in_range};
 
-pub(crate) fn is_set(mode: u64, bit: u64) -> bool
-    requires { 0 < bit }
-    ensures { result ≡ bit_set mode bit }
-{
-    mode / bit % 2 == 1
-}
+impl Request {
+    pub(crate) fn selects(self, bit: u64) -> bool
+        requires { 0 < bit }
+        ensures { result ≡ bit_set self.mode bit }
+    {
+        self.mode / bit % 2 == 1
+    }
 
-fn offset_outside(r: Request) -> bool
-    ensures { result ≡ offset_outside r }
-{
-    is_set(r.mode, ADJ_OFFSET) & !((MIN_OFFSET <= r.offset.0) & (r.offset.0 <= MAX_OFFSET))
-}
+    // A field of the request, where its bit selects it.
+    pub(crate) fn selected<T: Drop>(self, bit: u64, field: T) -> Option<T>
+        requires { 0 < bit }
+        ensures { result ≡ then_some (bit_set self.mode bit) field }
+    {
+        self.selects(bit).then_some(field)
+    }
 
-fn frequency_outside(r: Request) -> bool
-    ensures { result ≡ frequency_outside r }
-{
-    is_set(r.mode, ADJ_FREQUENCY)
-        & !((FREQUENCY_LOWER_END < r.frequency.0) & (r.frequency.0 < FREQUENCY_UPPER_END))
-}
+    fn offset_outside(self) -> bool
+        ensures { result ≡ offset_outside self }
+    {
+        self.selects(ADJ_OFFSET) & !((MIN_OFFSET <= self.offset.0) & (self.offset.0 <= MAX_OFFSET))
+    }
 
-fn maxerror_above(r: Request) -> bool
-    ensures { result ≡ maxerror_above r }
-{
-    is_set(r.mode, ADJ_MAXERROR) & (MAX_ERROR < r.maxerror.0)
-}
+    fn frequency_outside(self) -> bool
+        ensures { result ≡ frequency_outside self }
+    {
+        self.selects(ADJ_FREQUENCY)
+            & !((FREQUENCY_LOWER_END < self.frequency.0) & (self.frequency.0 < FREQUENCY_UPPER_END))
+    }
 
-fn esterror_above(r: Request) -> bool
-    ensures { result ≡ esterror_above r }
-{
-    is_set(r.mode, ADJ_ESTERROR) & (MAX_ERROR < r.esterror.0)
-}
-
-fn status_above(r: Request) -> bool
-    ensures { result ≡ status_above r }
-{
-    is_set(r.mode, ADJ_STATUS) & (MAX_STATUS < r.status)
-}
-
-fn constant_above(r: Request) -> bool
-    ensures { result ≡ constant_above r }
-{
-    is_set(r.mode, ADJ_TIMECONST) & (MAX_CONSTANT < r.constant)
+    // An error, a status or a time constant.
+    fn above(self, bit: u64, field: u64, most: u64) -> bool
+        requires { 0 < bit }
+        ensures { result ≡ bit_set self.mode bit && ltb most field }
+    {
+        self.selects(bit) & (most < field)
+    }
 }
 
 // The count stops far above the least, so that it tells fewer rollovers as they were. It is judged first:
@@ -66,39 +60,40 @@ fn offset_too_soon(c: Clock, r: Request) -> bool
     if MIN_INTERVAL <= c.interval {
         return false;
     }
-    is_set(r.mode, ADJ_OFFSET) & (c.updated == 1)
+    r.selects(ADJ_OFFSET) & (c.updated == 1)
 }
 
-// The lowest refusal that applies, or 0.
-pub(crate) fn refusal_of(c: Clock, r: Request) -> u8
-    ensures { result ≡ request_refusal c r }
+// The lowest refusal that applies.
+#[tactic(auto, using(std::proofs::lemmas::Bool::Decides::nat_tests), unfolding(crate::specs::Request::request_refusal))]
+pub(crate) fn judged(c: Clock, r: Request) -> Result<(), Refusal>
+    ensures { refusal_of result ≡ request_refusal c r }
 {
     if !in_range(c) {
-        return REFUSED_STATE;
+        return Err(Refusal::State);
     }
     if MAX_MODE < r.mode {
-        return REFUSED_MODE;
+        return Err(Refusal::Mode);
     }
-    if offset_outside(r) {
-        return REFUSED_OFFSET;
+    if r.offset_outside() {
+        return Err(Refusal::Offset);
     }
-    if frequency_outside(r) {
-        return REFUSED_FREQUENCY;
+    if r.frequency_outside() {
+        return Err(Refusal::Frequency);
     }
-    if maxerror_above(r) {
-        return REFUSED_ERROR;
+    if r.above(ADJ_MAXERROR, r.maxerror.0, MAX_ERROR) {
+        return Err(Refusal::Error);
     }
-    if esterror_above(r) {
-        return REFUSED_ERROR;
+    if r.above(ADJ_ESTERROR, r.esterror.0, MAX_ERROR) {
+        return Err(Refusal::Error);
     }
-    if status_above(r) {
-        return REFUSED_STATUS;
+    if r.above(ADJ_STATUS, r.status, MAX_STATUS) {
+        return Err(Refusal::Status);
     }
-    if constant_above(r) {
-        return REFUSED_CONSTANT;
+    if r.above(ADJ_TIMECONST, r.constant, MAX_CONSTANT) {
+        return Err(Refusal::Constant);
     }
     if offset_too_soon(c, r) {
-        return REFUSED_SOON;
+        return Err(Refusal::Soon);
     }
-    0
+    Ok(())
 }

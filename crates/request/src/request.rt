@@ -1,8 +1,7 @@
 ghost use Rattle.std.specs.Prelude.{◌≡◌};
 ghost use Rattle.request.specs.Request.{mode_bits, shortest_interval, request_of};
 
-use crate::effects::requested_of;
-use crate::refusal::refusal_of;
+use crate::effects::Granted;
 use crate::units::{AskedFrequency, AskedOffset};
 use state::{AskedMicros, Clock, Outcome};
 
@@ -20,7 +19,7 @@ pub const ADJ_STATUS: u64 = 16;
 pub const ADJ_TIMECONST: u64 = 32;
 
 // The same bits, as one value.
-#[derive(Clone, Copy)]
+#[derive(Clone, Copy, Debug, PartialEq, Eq)]
 pub struct ModeBits {
     pub offset: u64,
     pub frequency: u64,
@@ -55,7 +54,7 @@ pub const MIN_INTERVAL: u32 = 64;
 
 // The mode says which fields are selected; the others are not looked at.
 #[repr(C)]
-#[derive(Clone, Copy)]
+#[derive(Clone, Copy, Debug, PartialEq, Eq)]
 pub struct Request {
     pub mode: u64,
     pub offset: AskedOffset,
@@ -71,16 +70,8 @@ pub fn adjust(c: Clock, r: Request) -> Outcome
     ensures value { result ≡ request_of c r }
     ensures min_interval_value { MIN_INTERVAL ≡ shortest_interval }
 {
-    let n = refusal_of(c, r);
-    if n != 0 {
-        return Outcome {
-            refusal: n,
-            clock: c,
-        };
-    }
-    let next = requested_of(c, r);
-    Outcome {
-        refusal: 0,
-        clock: next,
+    match Granted::new(c, r) {
+        Ok(granted) => Outcome::accepted(granted.requested()),
+        Err(refusal) => Outcome::refused(c, refusal),
     }
 }

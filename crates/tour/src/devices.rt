@@ -7,7 +7,7 @@ use std::io;
 // A number that is no kind.
 const NO_KIND: u8 = 2;
 
-fn show_kind(rt: &impl Print, what: &[u8], c: Clock) -> io::Result<()> {
+fn show_kind(rt: &impl Print, what: &str, c: Clock) -> io::Result<()> {
     show_count(rt, what, c.kind as u64)
 }
 
@@ -15,20 +15,20 @@ fn show_kind(rt: &impl Print, what: &[u8], c: Clock) -> io::Result<()> {
 // clock, since it is a value.
 pub(crate) fn second_of_1024_ticks(rt: &impl Print) -> io::Result<()> {
     let new = clock::fresh(KIND_1024);
-    show_refusal(rt, b"a fresh clock of kind 1", new.refusal)?;
+    show_refusal(rt, "a fresh clock of kind 1", new.refusal)?;
     let rate = clock::device_constants(KIND_1024).device.rate as u64;
-    show_count(rt, b"  ticks a second", rate)?;
+    show_count(rt, "  ticks a second", rate)?;
     let one = clock::run_ticks(new.clock, 1);
-    show_clock(rt, b"  one tick later", one.clock)?;
+    show_clock(rt, "  one tick later", one.clock)?;
     let second = clock::run_ticks(new.clock, rate);
-    show_clock(rt, b"  a second later", second.clock)?;
+    show_clock(rt, "  a second later", second.clock)?;
     let set = clock::set(second.clock, 0, AskedMicros(0));
-    show_kind(rt, b"  set back, and of kind", set.clock)
+    show_kind(rt, "  set back, and of kind", set.clock)
 }
 
 // There is no third kind: the answer is refused, and its clock is one of kind 0.
 pub(crate) fn no_third_kind(rt: &impl Print) -> io::Result<()> {
     let none = clock::fresh(NO_KIND);
-    show_refusal(rt, b"a fresh clock of kind 2", none.refusal)?;
-    show_kind(rt, b"  which gives one of kind", none.clock)
+    show_refusal(rt, "a fresh clock of kind 2", none.refusal)?;
+    show_kind(rt, "  which gives one of kind", none.clock)
 }

@@ -9,9 +9,9 @@ mod show;
 
 use crate::show::{show_clock, show_refusal};
 use clock::{AskedMicros, Clock, FREQUENCY_PER_PPM, KIND_256};
+use program::status_of;
 use request::{ADJ_FREQUENCY, ADJ_OFFSET, AskedFrequency, AskedOffset, Request};
 use std::io;
-use std::io::ErrorKind;
 use std::process::ExitCode;
 
 // 2000-02-29T00:00:00Z, in seconds since 1970.
@@ -26,11 +26,11 @@ const TICKS: u64 = 256;
 fn tour(rt: &impl Print) -> io::Result<()> {
     // A clock to which nothing has happened yet shows 1970. Its status is 4, BAD: it is not to be relied on.
     let new = clock::fresh(KIND_256).clock;
-    show_clock(rt, b"fresh", new)?;
+    show_clock(rt, "fresh", new)?;
 
     // A setting takes any seconds and microseconds, and refuses those that no clock can show.
     let set = clock::set(new, LEAP_DAY, AskedMicros(0));
-    show_clock(rt, b"set", set.clock)?;
+    show_clock(rt, "set", set.clock)?;
 
     // A request changes the fields that its mode selects; the others are not looked at. This one moves the
     // clock forward by 1,000 us, a little in each second, and has it gain 50 us a second from then on. An
@@ -45,20 +45,20 @@ fn tour(rt: &impl Print) -> io::Result<()> {
         constant: 0,
     };
     let adjusted = request::adjust(set.clock, asked);
-    show_refusal(rt, b"1,000 us and 50 ppm asked for", adjusted.refusal)?;
+    show_refusal(rt, "1,000 us and 50 ppm asked for", adjusted.refusal)?;
 
     // Neither is in force before a new second begins. In the one that then begins the clock gains 50 us by
     // the frequency, and 1,000/1,024 of a microsecond by the offset; a reading shows whole microseconds.
     let first = clock::run_ticks(adjusted.clock, TICKS);
-    show_clock(rt, b"256 ticks later", first.clock)?;
+    show_clock(rt, "256 ticks later", first.clock)?;
     let second = clock::run_ticks(first.clock, TICKS);
-    show_clock(rt, b"another 256 ticks later", second.clock)?;
+    show_clock(rt, "another 256 ticks later", second.clock)?;
 
     // From one offset to the next at least 64 seconds have to end, or a faulty source would have the clock
     // chase it. Only two have: the request is refused whole, its frequency too.
     let again = request::adjust(second.clock, asked);
-    show_refusal(rt, b"the same asked for again", again.refusal)?;
-    show_clock(rt, b"  which gives", again.clock)?;
+    show_refusal(rt, "the same asked for again", again.refusal)?;
+    show_clock(rt, "  which gives", again.clock)?;
 
     // Many ticks in one call, for a recorder that has slept. A clock is a value: each of these begins with
     // the same one.
@@ -78,19 +78,19 @@ fn save_and_restore(rt: &impl Print, c: Clock) -> io::Result<()> {
     let mut bytes = [0u8; 45];
     let saved = record::write(c, &mut bytes);
     let n = saved.length;
-    show_refusal(rt, b"saved", saved.refusal)?;
+    show_refusal(rt, "saved", saved.refusal)?;
     let mut copy = bytes;
     damage_and_restore(rt, &mut copy[..n])?;
-    restore(rt, b"the record", &bytes[..n])
+    restore(rt, "the record", &bytes[..n])
 }
 
 // The first byte of a record is its version, and there is no version 9.
 fn damage_and_restore(rt: &impl Print, bytes: &mut [u8]) -> io::Result<()> {
-    if bytes.len() == 0 {
+    let Some(version) = bytes.first_mut() else {
         return Ok(());
-    }
-    bytes[0] = 9;
-    restore(rt, b"the damaged copy", bytes)
+    };
+    *version = 9;
+    restore(rt, "the damaged copy", bytes)
 }
 
 // A record of version 1, which has the second of the last offset where later ones have the rollovers since
@@ -99,29 +99,17 @@ fn damage_and_restore(rt: &impl Print, bytes: &mut [u8]) -> io::Result<()> {
 fn restore_an_old_record(rt: &impl Print) -> io::Result<()> {
     let bytes =
         b"\x01\x82\x98\xec\xc5\x03\x32\x00\x00\x00\x80\x80\x80\x40\x00\x01\x80\x98\xec\xc5\x03\x80\xc8\xd0\x07\x80\xc8\xd0\x07\x00";
-    restore(rt, b"a record of version 1", bytes)
+    restore(rt, "a record of version 1", bytes)
 }
 
 // Any bytes may be handed in. Those that are no record get a refusal, and give the fresh clock of kind 0.
-fn restore(rt: &impl Print, what: &[u8], bytes: &[u8]) -> io::Result<()> {
+fn restore(rt: &impl Print, what: &str, bytes: &[u8]) -> io::Result<()> {
     let restored = record::read(bytes);
     show_refusal(rt, what, restored.refusal)?;
-    show_clock(rt, b"  which gives", restored.clock)
+    show_clock(rt, "  which gives", restored.clock)
 }
 
-// 128 and the number of the signal SIGPIPE.
-const BROKEN_PIPE: u8 = 141;
-
-// A line that can't be written ends the tour without a word. Where that is because nobody reads the pipe, the
-// status is the one that a shell has for the signal of that, which std holds back.
+// A line that can't be written ends the tour without a word.
 fn main(rt: HostRuntime) -> ExitCode {
-    match tour(&rt) {
-        Ok(()) => ExitCode::SUCCESS,
-        Err(error) => {
-            if error.kind() == ErrorKind::BrokenPipe {
-                return ExitCode::from(BROKEN_PIPE);
-            }
-            ExitCode::SUCCESS
-        }
-    }
+    status_of(tour(&rt))
 }

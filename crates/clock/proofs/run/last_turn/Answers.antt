@@ -1,11 +1,22 @@
 -- `clock::run::last_turn`: a turn in the last second, by whether its last tick stays within it.
-use Rattle.clock.proofs.RunLaws.{stays_turn, refused_turn}
+use mathlib.Core.Path.{refl, ◌∙◌}
+use native.Mathlib.Omega.{arith}
+use Rattle.clock.proofs.RunLaws.{stays_in_range, stays_turn, before_in_range, refused_turn}
 use Rattle.clock.proofs.run.last_turn.Goals as goal
+
+pub at-requires : goal.at-requires
+at-requires c =
+    stays_in_range c.args.jump.ticks c.args.jump c.requires.some (omega arith) _ c.advance-a.ensures c.if-a-lt-MICROS_PER_SECOND.true
 
 pub returns-then-a-lt-MICROS_PER_SECOND : goal.returns-then-a-lt-MICROS_PER_SECOND
 returns-then-a-lt-MICROS_PER_SECOND c n most =
-    rw c.turn_within.ensures (stays_turn n c.args.j c.args.c c.requires.c_value c.requires.j_nonzero.0 most c.requires.j_nonzero.1 c.args.a c.requires.a_value c.if-a-lt-MICROS_PER_SECOND.true)
+    stays_turn n c.args.jump c.requires.some most _ c.advance-a.ensures c.if-a-lt-MICROS_PER_SECOND.true c.at.ensures
+
+pub at-requires-2 : goal.at-requires-2
+at-requires-2 c =
+    rw (c.advance.ensures, c.less_a_tick-before.ensures.0, c.less_a_tick-before.ensures.1) (before_in_range c.args.jump.ticks c.args.jump c.requires.some (omega arith))
 
 pub returns : goal.returns
 returns c n most =
-    rw c.turn_within-2.ensures (refused_turn n c.args.j c.args.c c.requires.c_value c.requires.j_nonzero.0 most c.requires.j_nonzero.1 c.args.a c.requires.a_value c.if-a-lt-MICROS_PER_SECOND.false c.requires.seconds_value c.jump.result c.jump.ensures)
+    let b = c.less_a_tick-before.ensures in
+    rw b.1 (refused_turn n c.args.jump c.requires.some most _ c.advance-a.ensures c.if-a-lt-MICROS_PER_SECOND.false c.requires.last (c.at-2.ensures ∙ rw (c.advance.ensures, b.0, b.1) refl))

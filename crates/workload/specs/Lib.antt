@@ -1,0 +1,4 @@
+pub mod Checksum
+pub mod Count
+pub mod Later
+pub mod Values
