@@ -15,7 +15,7 @@ use request::{
 use state::{AskedMicros, Refusal};
 
 // An event of a history.
-#[derive(Clone, Copy)]
+#[derive(Clone, Copy, Debug, PartialEq, Eq)]
 pub enum Event {
     // so many single ticks, up to the first refusal
     Ticks(u64),
@@ -26,7 +26,7 @@ pub enum Event {
 }
 
 // An event that was read, and the place after it.
-#[derive(Clone, Copy)]
+#[derive(Clone, Copy, Debug, PartialEq, Eq)]
 pub struct Entry {
     pub event: Event,
     pub next: usize,

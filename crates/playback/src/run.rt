@@ -39,7 +39,7 @@ pub fn run_limits() -> RunLimits
 
 // Where a run stands: its clock; the place of the next event; whether it has ended; the next quarter-hour
 // whose line is printed, where the history asks for the summary; and the summary of the events so far.
-#[derive(Clone, Copy)]
+#[derive(Clone, Copy, Debug, PartialEq, Eq)]
 pub struct Run {
     pub clock: Clock,
     pub place: usize,
@@ -190,7 +190,7 @@ fn put_quarters(m: &Summary, first: usize, out: &mut [u8], start: usize, last: u
 // The answer of `fill`: refusal 0, where the run stands, and how many bytes of the buffer were written; or
 // refusal 14 for a run that has not ended and a buffer that has no room for a line, with the run as it was
 // and no bytes. It is a struct and no Result, since a refused call hands the run back too.
-#[derive(Clone, Copy)]
+#[derive(Clone, Copy, Debug, PartialEq, Eq)]
 pub struct Filling {
     pub refusal: u8,
     pub run: Run,

@@ -54,7 +54,7 @@ pub fn step_in_place(c: Clock, e: Event, m: &mut Summary) -> Stepped
 }
 
 // The answer of an event, and the summary after it.
-#[derive(Clone, Copy)]
+#[derive(Clone, Copy, Debug, PartialEq, Eq)]
 pub struct Summed {
     pub stepped: Stepped,
     pub summary: Summary,
