@@ -72,7 +72,6 @@ module _ (kind : ℕ) (f : ℤ) where
     divided_parts : (pos_part (quot_z f (pos (device_of kind).divisor)) ≤ 1677721600 / (device_of kind).divisor) × (neg_part (quot_z f (pos (device_of kind).divisor)) ≤ 1677721600 / (device_of kind).divisor)
     divided_parts = simp parts (divided_part (pos_part f) hf.0, divided_part (neg_part f) hf.1)
 
-
 module _ (kind : ℕ) (s f : ℤ) (hs : (pos_part s ≤ 2047984) × (neg_part s ≤ 2047984)) (hf : (pos_part f ≤ 1677721600) × (neg_part f ≤ 1677721600)) where
   abbrev scaled : ℤ
   scaled = pos (device_of kind).scale *ℤ s

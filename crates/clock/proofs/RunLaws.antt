@@ -1,11 +1,11 @@
 -- A run of ticks by turns: jumps within a second, and the tick after each, whatever it does.
 use mathlib.Core.Path.{◌≡◌, refl, sym, ◌∙◌, ap}
-use mathlib.Core.Bool.{Bool, true, false, ◌&&◌, cond, true≢false}
+use mathlib.Core.Bool.{Bool, true, false, ◌&&◌, cond}
 use Prim.Native.Nat.{ℕ, zero, suc, ◌+◌, ◌-◌, ◌≤◌, ◌<◌}
 use native.Mathlib.Nat.{mul-le-mul_left}
 use native.Mathlib.Omega.{arith}
 use lib.Dec.{eqb}
-use borrow.Author.Tests.{le-leb, lt-leb, eq-eqb, ne_eqb, eqb-true}
+use borrow.Author.Tests.{le-leb, lt-leb, eq-eqb, ne_eqb}
 use Rattle.state.specs.Device.{device_of}
 use Rattle.state.specs.State.{in_range}
 use Rattle.state.specs.Inner.{longest_tick}
@@ -14,7 +14,7 @@ use Rattle.state.specs.declared.outcome.Outcome.{Outcome}
 use Rattle.state.proofs.Ok.{Ok, ok, ok_back}
 use Rattle.clock.specs.Rollover.{rolled_over}
 use Rattle.clock.specs.Tick.{advanced, micros_grown, rolls_over, tick_of, tick_refusal, ticked}
-use Rattle.clock.specs.Ticks.{ended, one_more, ran_of, catch_up_refusal, catch_up_of, ticks_of}
+use Rattle.clock.specs.Ticks.{ended, one_more, ran_of, ticks_of}
 use Rattle.state.specs.declared.refusal.Refusal.TheVariants.{Last}
 use Rattle.clock.specs.Inner.{Within, advance_of, moved_to, less_a_second, jump_of, adds, ran, end_refusal, ends_run, TurnOf}
 use Rattle.clock.specs.declared.timer.Advance.{Advance}

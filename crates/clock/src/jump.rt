@@ -42,7 +42,8 @@ impl Jump {
         requires { 0 < most }
         ensures { (result.from ≡ s) × (0 < result.ticks) × (result.ticks ≤ most) }
     {
-        let j = (LAST_MICRO - s.clock.micros.0) as u64 * per_micro(s.clock.kind) / PER_MICRO_UNIT + 1;
+        let j = (LAST_MICRO - s.clock.micros.0) as u64 * per_micro(s.clock.kind) / PER_MICRO_UNIT
+            + 1;
         Jump {
             from: s,
             ticks: j.min(most),
@@ -65,7 +66,8 @@ impl Jump {
         ensures { result ≡ reached_after self.ticks self.from.clock }
     {
         let c = self.from.clock;
-        self.from.divide(c.leftover.0 + self.ticks as i32 * c.remainder.0)
+        self.from
+            .divide(c.leftover.0 + self.ticks as i32 * c.remainder.0)
     }
 
     // The microseconds, the phase and the leftover that the ticks lead to.

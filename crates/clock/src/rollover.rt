@@ -103,14 +103,15 @@ impl Sound {
         (PhaseUnits(adjustment), frequency.remainder)
     }
 
-    // A rollover: second_overflow() of RFC 1589.
+    // A rollover: second_overflow() of RFC 1589. The leap step is looked for first: behind the increments it
+    // costs a tick two instructions more, and many ticks in one call two fewer at each second.
     pub(crate) fn rollover(self) -> Sound
         requires { self.clock.seconds < last_second }
         ensures { result.clock ≡ rolled_over self.clock }
     {
+        let leap = leap_step(self.clock.status, self.clock.seconds + 1);
         let share = self.share();
         let (adjustment, remainder) = self.increments(share);
-        let leap = leap_step(self.clock.status, self.clock.seconds + 1);
         let clock = Clock {
             seconds: leap.seconds,
             offset: OffsetUnits(self.clock.offset.0 - share.0),

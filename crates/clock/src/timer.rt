@@ -84,7 +84,8 @@ impl Sound {
     }
 
     // A tick that reaches the end of its second. Apart from `tick`, so that the ticks within a second stay
-    // short.
+    // short. The answers are written out here and in `tick`: `Outcome::accepted` and `Outcome::refused` cost
+    // each tick three instructions more.
     fn overflow(self, a: Advance) -> Outcome
         requires full { rolls_over self.clock ≡ true }
         requires ticked { a ≡ advance_of self.clock }

@@ -5,7 +5,6 @@ use native.Mathlib.Omega.{arith}
 use Rattle.state.proofs.Ok.{ok}
 use Rattle.state.specs.declared.state.Clock.{Clock}
 use Rattle.clock.specs.declared.sound.Sound.{Sound}
-use Rattle.clock.specs.declared.timer.Advance.{Advance}
 use Rattle.clock.specs.Rollover.{rolled_over}
 use Rattle.clock.specs.Inner.{moved_to, less_a_second}
 use Rattle.clock.proofs.RunLaws.{stays_in_range, stays_turn, rest_in_range, rolled_turn}

@@ -1,13 +1,9 @@
 -- `clock::sound::Sound::rollover`: a rollover does what `rolled_over` says, field by field.
-use mathlib.Core.Path.{◌≡◌, ◌∙◌, ap}
 use mir.Facts.{to_z-of_z}
 use Rattle.integers.proofs.Ranges.{parts_within}
-use Rattle.state.specs.State.{in_range}
-use Rattle.state.specs.declared.state.Clock.{Clock}
 use Rattle.state.proofs.Ok.{ok, ok_back}
 use Rattle.clock.specs.Rollover.{share, rolled_over}
 use Rattle.clock.proofs.RollLaws.{fits_offset, fits_share_of, fits_rest, share_parts, rolled_ok}
-use Rattle.clock.proofs.sound.Sound.rollover.Goals.{After-maxerror_grown}
 use Rattle.clock.proofs.sound.Sound.rollover.Goals as goal
 
 pub increments-requires : goal.increments-requires
