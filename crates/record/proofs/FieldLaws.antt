@@ -18,7 +18,6 @@ use Rattle.state.specs.State.{phase_range, offset_range, frequency_range, adjust
 use Rattle.state.specs.declared.device.Device.{Device}
 use Rattle.state.proofs.DeviceLaws.{fits_least, fits_most}
 use Rattle.number.specs.Layout.{Layout, place, judged_by, field_at, place_at, suits, mapped_range, failed, read_from}
-use Rattle.state.specs.declared.state.Clock.{Clock}
 use Rattle.record.specs.Layout.{last_range}
 use Rattle.record.specs.Inner.{told_field, up_to, between_z, mapped_phase, mapped_offset, mapped_frequency, mapped_parts, last_most}
 use Rattle.record.proofs.Ranges.{phase_test, offset_test, frequency_test, parts_test, last_test}

@@ -1,6 +1,6 @@
 // Reading a clock's record.
 ghost use Rattle.std.specs.Prelude.{◌≡◌};
-ghost use Rattle.record.specs.Layout.{record_layout, head_fields, time_fields, loop_fields, rate_fields, update_fields, error_fields, part_fields};
+ghost use Rattle.record.specs.Layout.{head_fields, time_fields, loop_fields, rate_fields, update_fields, error_fields, part_fields};
 ghost use Rattle.record.specs.Reading.{reading_of, refused_with};
 ghost use Rattle.state.specs.Refusal.{refusal_number};
 ghost use Rattle.record.specs.Inner.{ReadsGroup, last_most, mapped_parts};
