@@ -1,4 +1,5 @@
-// The lines that a run writes, each into a lent buffer that has room for it.
+// The lines that a run writes, each into a lent buffer that has room for it. The buffer and the place in it are
+// two parameters, and no writer holds them: each of its methods would have to say which buffer it still holds.
 ghost use Rattle.std.specs.Prelude.{◌≡◌, true, ◌++◌, ◌+◌, ◌≤◌, ◌<◌, length};
 ghost use Rattle.state.specs.Refusal.{refusal_number};
 ghost use Rattle.state.specs.State.{in_range};
@@ -30,7 +31,7 @@ fn digit(n: u32) -> u8
     b'0' + (n % 10) as u8
 }
 
-// Writes n in decimal.
+// Writes n in decimal. By hand, since the library's formatter does not tell the place after what it wrote.
 fn put_decimal(out: &mut [u8], at: usize, n: u32) -> usize
     requires { at + length (decimal n) ≤ length out.old }
     ensures { Puts (decimal n) out.old at out.new result }
