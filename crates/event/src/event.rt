@@ -28,8 +28,8 @@ pub enum Event {
 // The answer of an event: refusal 0 where it was accepted, else its number in the table of refusals; the
 // clock after it; and what the clock shows where the event is an accepted reading, else zeros and status 4.
 // Of a catch-up also how many ticks were accepted, and the refusal of the tick that ended them, or 0; of a
-// single call both are 0. A struct and no Result: `Answers` of bounds/specs/Calls.antt, over which the theorem
-// `demand3` is stated, has the clock of a refused event too.
+// single call both are 0. A struct and no Result: `Answers` of bounds/specs/Calls.antt, over which the
+// theorem `demand3` is stated, has the clock of a refused event too.
 #[derive(Clone, Copy, Debug, PartialEq, Eq)]
 pub struct Stepped {
     pub refusal: u8,

@@ -1,6 +1,6 @@
 // The clock for programs in C: c/heukelvos.h declares these functions and says what each owes. `rt lib` here
 // writes the library. Those on a lent clock end in `_in_place`; the others take and hand back the clock by
-// value.
+// value. A refusal crosses to C as its number, and 0 where there is none.
 #![tactic(auto)]
 
 mod lent;

@@ -16,8 +16,8 @@ use request::Request;
 // The greatest number that `clock::fresh` can be given, and no kind.
 const LAST_BYTE: u64 = 255;
 
-// C cuts a number to the width of its argument and says nothing: so the kind is a number of 64 bits and no enum,
-// and judged before it is cut.
+// C cuts a number to the width of its argument and says nothing: so the kind is a number of 64 bits and no
+// enum, and judged before it is cut.
 #[unsafe(no_mangle)]
 pub extern "C" fn heukelvos_fresh(kind: u64) -> Outcome
     ensures { result ≡ fresh_of kind }

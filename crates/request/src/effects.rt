@@ -81,8 +81,9 @@ impl Granted {
         s
     }
 
-    // The clock with every effect of the request: of an offset last, since its gain takes the frequency and the
-    // time constant that the request wrote.
+    // The clock with every effect of the request: of an offset last, since its gain takes the frequency and
+    // the time constant that the request wrote. All that an offset moves stands behind one test of its bit:
+    // with a test for each, a request took 7 to 10 instructions in 100 more.
     pub(crate) fn requested(self) -> Clock
         ensures { result ≡ requested self.clock self.request }
     {

@@ -5,7 +5,8 @@ use crate::effects::Granted;
 use crate::units::{AskedFrequency, AskedOffset};
 use state::{AskedMicros, Clock, Outcome};
 
-// The bits of a request's mode, one for each field that it can select, by their names in RFC 1589.
+// The bits of a request's mode, one for each field that it can select, by their names in RFC 1589. They are
+// numbers and no enum: a mode holds any set of them, and C hands it over as a number.
 pub const ADJ_OFFSET: u64 = 1;
 
 pub const ADJ_FREQUENCY: u64 = 2;

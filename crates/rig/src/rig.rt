@@ -23,8 +23,8 @@ pub fn most_clocks() -> usize
 
 // What an event answers beside the clock, which stays in the table: refusal 0 where it was accepted, else its
 // number; of a catch-up how many ticks were accepted, and the refusal of the tick that ended them, or 0; and
-// of an accepted reading what the clock shows, else zeros and status 4. Its refusals are numbers, since C reads
-// it by value.
+// of an accepted reading what the clock shows, else zeros and status 4. Its refusals are numbers, since C
+// reads it by value.
 #[repr(C)]
 #[derive(Clone, Copy, Debug, PartialEq, Eq)]
 pub struct Answer {
