@@ -41,7 +41,8 @@ fn called(call: event::Call, next: usize) -> Result<Entry, Refusal>
     })
 }
 
-// The arguments of each event, from the place after its code on.
+// The arguments of each event, from the place after its code on. Bytes and place are two parameters, as
+// `number::read` takes them.
 fn ticks_at(bytes: &[u8], at: usize) -> Result<Entry, Refusal>
     ensures { told result ≡ ticks_at bytes.now at }
 {
@@ -74,6 +75,8 @@ fn field_at(bytes: &[u8], at: usize, mode: u64, bit: u64) -> Result<Number, Refu
     Ok(Number { value: 0, next: at })
 }
 
+// What a field's number stands for, mapped. Functions and no conversions of the types: only a history writes an
+// offset or a frequency so.
 fn offset_of(n: u64) -> AskedOffset
     ensures { result ≡ offset_asked n }
 {
