@@ -18,11 +18,6 @@ snippets_crate() {
     done
     { echo '#![tactic(auto)]' && cat "$mine/src/main.rt" "$work/modules"; } >"$work/main.rt" &&
         mv "$work/main.rt" "$mine/src/main.rt" || return 1
-    for form in $(forms_of proof); do
-        read -r _ function file <"$form.kind"
-        mkdir -p "$mine/proofs/$function"
-        filled "$form" >"$mine/proofs/$function/$file.antt"
-    done
 }
 
 snippets_proved() {
