@@ -58,7 +58,7 @@ fn catch_up_all(b: Behind) -> Behind {
 // From five seconds before the last one on. The tick that would end the last second is refused: its number
 // stands beside the count, the ticks before it stand, and the call itself is accepted.
 pub(crate) fn into_the_last_second(rt: &impl Print, c: Clock) -> io::Result<()> {
-    let set = clock::set(c, LAST_SECOND as u64 - 5, AskedMicros(0));
+    let set = clock::set(c, u64::from(LAST_SECOND) - 5, AskedMicros(0));
     let made = clock::catch_up(set.clock, MAX_CEILING, false);
     show_refusal(rt, "65,536 ticks, at the end of time", made.refusal)?;
     show_count(rt, "  ticks made", made.count)?;

@@ -8,7 +8,7 @@ use std::io;
 const NO_KIND: u8 = 2;
 
 fn show_kind(rt: &impl Print, what: &str, c: Clock) -> io::Result<()> {
-    show_count(rt, what, c.kind as u64)
+    show_count(rt, what, u64::from(c.kind))
 }
 
 // A second of the 1,024 Hz recorder: as many ticks as its constants tell. Both runs begin with the same
@@ -16,7 +16,7 @@ fn show_kind(rt: &impl Print, what: &str, c: Clock) -> io::Result<()> {
 pub(crate) fn second_of_1024_ticks(rt: &impl Print) -> io::Result<()> {
     let new = clock::fresh(KIND_1024);
     show_refusal(rt, "a fresh clock of kind 1", new.refusal)?;
-    let rate = clock::device_constants(KIND_1024).device.rate as u64;
+    let rate = u64::from(clock::device_constants(KIND_1024).device.rate);
     show_count(rt, "  ticks a second", rate)?;
     let one = clock::run_ticks(new.clock, 1);
     show_clock(rt, "  one tick later", one.clock)?;
