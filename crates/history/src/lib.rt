@@ -75,8 +75,8 @@ fn field_at(bytes: &[u8], at: usize, mode: u64, bit: u64) -> Result<Number, Refu
     Ok(Number { value: 0, next: at })
 }
 
-// What a field's number stands for, mapped. Functions and no conversions of the types: only a history writes an
-// offset or a frequency so.
+// What a field's number stands for, mapped. Functions and no conversions of the types: only a history
+// writes an offset or a frequency so.
 fn offset_of(n: u64) -> AskedOffset
     ensures { result ≡ offset_asked n }
 {

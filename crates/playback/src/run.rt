@@ -67,9 +67,10 @@ fn is_reading(call: event::Call) -> bool
     matches!(call, event::Call::Reading)
 }
 
-// How far a run has come with its events: its clock, the place of the next event, whether bytes that hold none
-// have ended it; and the place after its lines in the lent buffer. It goes on by value, so that it stays in
-// registers: with the run itself lent, a replay of 6,000 ticks takes 4,347 instructions, and not 3,313.
+// How far a run has come with its events: its clock, the place of the next event, whether bytes that hold
+// none have ended it; and the place after its lines in the lent buffer. It goes on by value, so that it
+// stays in registers: with the run itself lent, a replay of 6,000 ticks takes 4,347 instructions, and not
+// 3,313.
 #[derive(Clone, Copy)]
 struct Walk {
     clock: Clock,
@@ -166,8 +167,8 @@ struct Listed {
     at: usize,
 }
 
-// Writes the lines of a summary from a quarter-hour on, as far as there is room for one more line. A loop that
-// counts, and no `for`, since a later call goes on at the quarter-hour where it stops.
+// Writes the lines of a summary from a quarter-hour on, as far as there is room for one more line. A loop
+// that counts, and no `for`, since a later call goes on at the quarter-hour where it stops.
 fn put_quarters(m: &Summary, first: usize, out: &mut [u8], start: usize, last: usize) -> Listed
     requires { (last + longest_line ≡ length out.old) × (start ≤ last) }
     ensures puts_quarters { PutsQuarters m.now first out.old start out.new result }
@@ -190,7 +191,8 @@ fn put_quarters(m: &Summary, first: usize, out: &mut [u8], start: usize, last: u
 
 // The answer of `fill`: refusal 0, where the run stands, and how many bytes of the buffer were written; or
 // refusal 14 for a run that has not ended and a buffer that has no room for a line, with the run as it was
-// and no bytes. It is a struct and no Result, since `Fills` says of a refused call too which run it hands back.
+// and no bytes. It is a struct and no Result, since `Fills` says of a refused call too which run it hands
+// back.
 #[derive(Clone, Copy, Debug, PartialEq, Eq)]
 pub struct Filling {
     pub refusal: u8,

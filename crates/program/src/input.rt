@@ -5,8 +5,8 @@ ghost use Rattle.program.specs.Input.{Took, Whole};
 use std::io;
 use std::io::Read;
 
-// Reads until the buffer is full, the input ends or a read fails: how many bytes were read, and whether a read
-// failed. What was read before that is in the buffer.
+// Reads until the buffer is full, the input ends or a read fails: how many bytes were read, and whether a
+// read failed. What was read before that is in the buffer.
 pub fn read_full<R: Read>(input: &mut R, buf: &mut [u8]) -> (usize, io::Result<()>)
     ensures within { result.0 ≤ length buf.new }
     ensures bytes { Took (R.remaining input.old) (R.remaining input.new) buf.new result }

@@ -59,8 +59,8 @@ pub(crate) fn small(bytes: &[u8], at: usize, most: u8) -> Result<Read<u8>, Refus
     })
 }
 
-// The field of `plain` in a record that holds it from version `first` on: in an older one it takes no byte and
-// is 0.
+// The field of `plain` in a record that holds it from version `first` on: in an older one it takes no byte
+// and is 0.
 pub(crate) fn since(
     first: u32,
     version: u32,

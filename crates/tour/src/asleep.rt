@@ -45,8 +45,8 @@ fn catch_up_once(b: Behind) -> Behind {
     }
 }
 
-// As many calls as can be needed; docs/GUIDE.md has it too. Where nothing is due any more, a call is asked for
-// 0 ticks, which is accepted and does nothing.
+// As many calls as can be needed; docs/GUIDE.md has it too. Where nothing is due any more, a call is asked
+// for 0 ticks, which is accepted and does nothing.
 fn catch_up_all(b: Behind) -> Behind {
     let mut behind = b;
     for _ in 0..=b.due / MAX_CEILING {

@@ -14,8 +14,8 @@ pub struct Values {
 impl Values {
     ghost use Rattle.workload.specs.Values.{CountFrom, value_at, small_at, times_at, difference_at, clock_of, request_at};
 
-    // The numbers from 0 on, for a line of ASCII: the first is taken from the line, so that the compiler cannot
-    // work them out.
+    // The numbers from 0 on, for a line of ASCII: the first is taken from the line, so that the compiler
+    // cannot work them out.
     pub fn of(line: &[u8]) -> Values
         ensures { CountFrom line.now result }
     {
@@ -61,8 +61,8 @@ impl Values {
         self.small(i) as u8
     }
 
-    // A clock of a kind with work to do: an offset of 1,000 us to pay off, a frequency that leaves a remainder
-    // at both kinds, and time constant 2. Its adjustment lies in the ranges of both kinds.
+    // A clock of a kind with work to do: an offset of 1,000 us to pay off, a frequency that leaves a
+    // remainder at both kinds, and time constant 2. Its adjustment lies in the ranges of both kinds.
     pub fn clock(&self, kind: u8) -> Clock
         ensures { result ≡ clock_of self.now kind }
     {
