@@ -228,7 +228,8 @@ fn run_histories(rt: &impl Print, all: &mut Tally) -> io::Result<()> {
 
 fn cross_check(rt: &impl Print) -> io::Result<()> {
     println!(rt;
-        "cases compared, cases that differ, and how often each answer was given (0: accepted, else the refusal):"
+        "cases compared, cases that differ, and how often each answer was given \
+         (0: accepted, else the refusal):"
     )?;
     let mut all = Tally::default();
     run_calls(rt, &mut all)?;
