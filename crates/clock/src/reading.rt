@@ -14,7 +14,8 @@ pub struct Reading {
     pub esterror: Micros,
 }
 
-// The answer of a reading: refusal 0 with what the clock shows, or refusal 1 with zeros and status 4.
+// The answer of a reading: refusal 0 with what the clock shows, or refusal 1 with zeros and status 4. A
+// struct and no Result: C reads it by value, and document 01 gives a refused reading these values.
 #[repr(C)]
 #[derive(Clone, Copy, Debug, PartialEq, Eq)]
 pub struct Told {

@@ -12,7 +12,7 @@ use state::{Clock, LAST_SECOND, MICROS_PER_SECOND, Refusal};
 
 // The answer of many ticks: refusal 0 where the call was accepted, else its number in the table of refusals;
 // how many ticks were accepted; the refusal of the tick that ended them, or 0; and the clock after the
-// accepted ones.
+// accepted ones. C reads it by value, so that its refusals are numbers, and it is no Result.
 #[repr(C)]
 #[derive(Clone, Copy, Debug, PartialEq, Eq)]
 pub struct CaughtUp {

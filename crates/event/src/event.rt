@@ -39,6 +39,8 @@ pub struct Stepped {
     pub reading: Reading,
 }
 
+// As `clock::read` answers where it is refused; it has no name there, since a public constant would want a
+// promise.
 const NO_READING: Reading = Reading {
     seconds: 0,
     micros: Micros(0),

@@ -126,7 +126,7 @@ fn summary_at(start: usize, at: usize) -> Result<Entry, Refusal>
     Err(Refusal::Field)
 }
 
-// The event that starts at `at`; or the refusal, 10, 11 or 12.
+// The event that starts at `at`; or the refusal, 10, 11 or 12. Codes are matched as numbers: any may come.
 pub fn read(bytes: &[u8], at: usize) -> Result<Entry, Refusal>
     ensures { told result ≡ event_at bytes.now at }
 {

@@ -20,7 +20,8 @@ const INSERTED_SECOND: u32 = 60;
 
 const LAST_MINUTE: u32 = HOURS_PER_DAY * MINUTES_PER_HOUR - 1;
 
-// The number of two decimal digits; 100 or more where a byte is no digit.
+// The number of two decimal digits; 100 or more where a byte is no digit. Not by the library's parser, which
+// takes a sign and other widths too.
 fn pair(tens: u8, units: u8) -> u32
     ensures { Alike result (pair_of tens units) }
 {

@@ -81,6 +81,7 @@ fn second_of(text: &[u8]) -> Option<UtcSecond>
     })
 }
 
+// The second that a label shows, or refusal 15.
 pub fn read(text: &[u8]) -> UtcSecond
     ensures { ReadsAs text.now result }
 {

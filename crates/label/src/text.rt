@@ -1,4 +1,5 @@
-// The bytes of a second's label.
+// The bytes of a second's label: digits by hand, eight bytes in one word, which C does not do in fewer
+// instructions.
 ghost use Rattle.std.specs.Prelude.{◌≡◌, ◌/◌, ◌%◌, ◌<◌, Bool, ◌∷◌, ◌++◌, if◌then◌else◌, nat_eq, slice_set};
 ghost use Rattle.state.specs.Units.{seconds_per_day, last_second_of_day};
 ghost use Rattle.label.specs.Label.{digit, two, seconds_per_minute, minutes_per_hour, seconds_per_hour, hours_per_day, label_of};

@@ -293,7 +293,8 @@ module _ {A : Type 0} (s : List ℕ) (r : ℕ) where
 pub layout_exactly_when : LayoutExactlyWhen reads_layout
 layout_exactly_when A l s at r = record { only = stops s r l at; always = stops_so s r l at }
 
--- ---- how the reading of a record goes on from a place, by what was found there: the laws of `Sequence` at a field
+-- ---- how the reading of a record goes on from a place, by what was found there: the laws of `Sequence` at
+-- a field
 
 module _ {A : Type 0} (here : Bool) (range : ℕ → Bool) (rest : ℕ → Layout A) (s : List ℕ) (at : ℕ) where
   abbrev before : Before (Outcome A)

@@ -1,6 +1,6 @@
 -- What holds of every number: the statements that the crate proves of the definitions. Each is said of any
--- reader, or of what a size is told to be, and holds of `number_at` and of `size_of`. Those that they shut out
--- are in `WrongReaders`.
+-- reader, or of what a size is told to be, and holds of `number_at` and of `size_of`. Those that they shut
+-- out are in `WrongReaders`.
 use Rattle.std.specs.Prelude.{◌≡◌, cond, List, ◌++◌, ◌⊎◌, ℕ, ◌+◌, ◌^◌, ◌<◌, ◌≤◌, ltb, length, take, drop}
 use Rattle.state.specs.Refusal.{refused_ended, refused_form}
 use Rattle.number.specs.Form.{limit, most_bytes, Bytes, bytes_of}

@@ -32,7 +32,8 @@ fn digit(n: u32) -> u8
     b'0' + (n % 10) as u8
 }
 
-// Writes n in decimal. By hand, since the library's formatter does not tell the place after what it wrote.
+// Writes n in decimal. By hand, in the buffer itself: the library's text of a number is a copy of its own, to
+// be copied again.
 fn put_decimal(out: &mut [u8], at: usize, n: u32) -> usize
     requires { at + length (decimal n) ≤ length out.old }
     ensures { Puts (decimal n) out.old at out.new result }
@@ -55,7 +56,7 @@ fn put_number(out: &mut [u8], at: usize, text: &[u8], n: u32) -> usize
     put_decimal(out, p, n)
 }
 
-// `refused N`; nothing where N is 0
+// `refused N`, the number that an answer holds; nothing where it is 0
 pub(crate) fn put_refused(out: &mut [u8], at: usize, n: u8) -> usize
     requires { at + longest_line ≤ length out.old }
     ensures { Puts (refusal_line n) out.old at out.new result }

@@ -168,7 +168,8 @@ struct Listed {
 }
 
 // Writes the lines of a summary from a quarter-hour on, as far as there is room for one more line. A loop
-// that counts, and no `for`, since a later call goes on at the quarter-hour where it stops.
+// that counts, and no `for`: a run that is handed in may stand above 96, where a range from there to 96 ends
+// at 96.
 fn put_quarters(m: &Summary, first: usize, out: &mut [u8], start: usize, last: usize) -> Listed
     requires { (last + longest_line ≡ length out.old) × (start ≤ last) }
     ensures puts_quarters { PutsQuarters m.now first out.old start out.new result }

@@ -2,8 +2,8 @@
 use Rattle.std.specs.Prelude.{ℕ, ◌<◌, List, length, take, Option, Result, IsOk}
 use Rattle.std.specs.Io.KnownBytes.{Consumes, IsAtEnd}
 
--- the bytes that were read are the first of the buffer, and those that the input has lost, where its bytes are
--- known: `old` before and `new` after
+-- the bytes that were read are the first of the buffer, and those that the input has lost, where its bytes
+-- are known: `old` before and `new` after
 abbrev pub Took : {A E : Type 0} → Option (List ℕ) → Option (List ℕ) → List ℕ → ℕ × Result A E → Type 0
 Took old new buf r = Consumes old new (take r.0 buf)
 

@@ -12,6 +12,7 @@ pub fn read_full<R: Read>(input: &mut R, buf: &mut [u8]) -> (usize, io::Result<(
     ensures bytes { Took (R.remaining input.old) (R.remaining input.new) buf.new result }
     ensures whole { Whole (R.remaining input.new) buf.new result }
 {
+    // It goes on by what a read gives, and not by one.
     let mut n = 0;
     while n < buf.len() {
         match input.read(&mut buf[n..]) {

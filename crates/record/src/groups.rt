@@ -32,6 +32,7 @@ pub(crate) struct Rate {
     pub constant: u8,
 }
 
+// Flag and number stand apart, as in a record and in a clock.
 #[derive(Clone, Copy)]
 pub(crate) struct Update {
     pub updated: u8,

@@ -15,7 +15,7 @@ pub fn write(c: Clock, buf: &mut [u8]) -> Result<usize, Refusal>
     if !in_range(c) {
         return Err(Refusal::State);
     }
-    // They are written before they are counted.
+    // Written apart first: how many bytes there are is known then, and a refused write leaves the buffer.
     let mut text = [0u8; ROOM];
     let n = number::write_all(&mut text, 0, &numbers(c)).unwrap();
     if buf.len() < n {

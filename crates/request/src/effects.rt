@@ -40,6 +40,8 @@ impl Granted {
         }
     }
 
+    // The two errors have a method each: one of both would have to ask, by a `requires`, for what
+    // `not_refused` says of each.
     fn maxerror_written(self) -> Micros
         ensures { result ≡ maxerror_written self.clock self.request }
     {

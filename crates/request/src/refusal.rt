@@ -15,6 +15,7 @@ use crate::request::{
 use state::{Clock, Refusal, in_range};
 
 impl Request {
+    // The bit is one of ADJ_.., which are numbers, since C adds them up.
     pub(crate) fn selects(self, bit: u64) -> bool
         requires { 0 < bit }
         ensures { result ≡ bit_set self.mode bit }

@@ -84,7 +84,8 @@ fn judged(clocks: usize, place: usize) -> Result<(), Refusal>
 }
 
 // What a table of so many clocks answers to an event at a place before any of them is looked at: refusal 19,
-// 18, or 0 where the event goes to the clock there.
+// 18, or 0 where the event goes to the clock there. It answers 0 too, and no Result: a rig in this language
+// goes by it, as docs/REFERENCE.md says.
 pub fn table_answer(clocks: usize, place: usize) -> Answer
     ensures { result ≡ bare_answer (table_refusal clocks place) }
 {

@@ -104,8 +104,8 @@ ReadingsNear rig kind calls =
     → NearExact (measure_of kind) (tells (rig_answer rig k).reading) (book_of kind (own_events before))
 
 -- The second, of the clock that the rig hands to a tick: where the tick rolls over by the rules, what has
--- been taken off is by the offset left in that clock. Of the ticks within a catch-up the rig shows no clock; of
--- those it is said of the clock by itself alone.
+-- been taken off is by the offset left in that clock. Of the ticks within a catch-up the rig shows no
+-- clock; of those it is said of the clock by itself alone.
 abbrev pub MovedAtRollover : ℕ → List RigCall → RigCall → Type 0
 MovedAtRollover kind before k =
     TickOf k → rolls (clock_after kind (own_events before)) Tick ≡ true

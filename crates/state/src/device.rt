@@ -1,6 +1,7 @@
 ghost use Rattle.std.specs.Prelude.{◌≡◌};
 ghost use Rattle.state.specs.Device.{kind256, kind1024, device_of, constants_of};
 
+use crate::refusals::REFUSED_STATE;
 use crate::units::{Micros, PhaseUnits};
 
 // What sets one kind of recorder apart from another: the rules take these numbers from here.
@@ -60,8 +61,8 @@ pub(crate) fn device_of(kind: u8) -> Device
     }
 }
 
-// A kind's constants: refusal 0 and those of the kind, or refusal 1 and those of kind 0. No Result: of any
-// number there are constants that the rules take.
+// A kind's constants: refusal 0 and those of the kind, or refusal 1 and those of kind 0. No Result:
+// `constants_of`, by which `device_constants` is promised, has the constants of kind 0 beside refusal 1.
 #[derive(Clone, Copy)]
 pub struct Constants {
     pub refusal: u8,
@@ -74,9 +75,8 @@ pub fn device_constants(kind: u8) -> Constants
     ensures kind_256_value { KIND_256 ≡ kind256 }
     ensures kind_1024_value { KIND_1024 ≡ kind1024 }
 {
-    let device = device_of(kind);
     Constants {
-        refusal: (KIND_1024 < kind) as u8,
-        device: device,
+        refusal: if KIND_1024 < kind { REFUSED_STATE } else { 0 },
+        device: device_of(kind),
     }
 }

@@ -44,7 +44,8 @@ pub const MAX_INTERVAL: u32 = 1024;
 // The limit of both errors (us).
 pub const MAX_ERROR: u32 = 16000000;
 
-// The status codes, by their names in RFC 1589. (In today's sys/timex.h TIME_WAIT is 4 and TIME_BAD 5.)
+// The status codes, by their names in RFC 1589. Numbers and no enum: C and records hand over any byte, and
+// document 01 has a rollover match on the number. (In today's sys/timex.h TIME_WAIT is 4 and TIME_BAD 5.)
 pub const TIME_OK: u8 = 0;
 
 pub const TIME_INS: u8 = 1;

@@ -91,7 +91,7 @@ impl TryFrom<u8> for Refusal {
     }
 }
 
-// What a program that meets a refusal can say of it.
+// What a program that meets a refusal can say of it: words for people, which no promise names.
 impl fmt::Display for Refusal {
     fn fmt<W: fmt::Write>(&self, f: &mut fmt::Formatter<W>) -> fmt::Result {
         f.write_str(match self {

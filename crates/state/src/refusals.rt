@@ -42,7 +42,7 @@ pub const REFUSED_PLACE: u8 = Refusal::Place as u8;
 
 pub const REFUSED_TABLE: u8 = Refusal::Table as u8;
 
-// The same numbers, as one value.
+// The same numbers, as one value: `refusal_numbers` promises what C's names are worth.
 #[derive(Clone, Copy)]
 pub struct RefusalNumbers {
     pub state: u8,

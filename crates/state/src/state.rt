@@ -137,21 +137,20 @@ pub fn fresh(kind: u8) -> Outcome
 fn fresh_of(kind: u8) -> Clock
     ensures { result ≡ fresh_clock kind }
 {
-    let base = device_of(kind).base;
     Clock {
         seconds: 0,
         micros: Micros(0),
         phase: PhaseUnits(0),
         offset: OffsetUnits(0),
         frequency: Frequency(0),
-        adjustment: base,
+        adjustment: device_of(kind).base,
         constant: 0,
         updated: 0,
         interval: 0,
         maxerror: Micros(MAX_ERROR),
         esterror: Micros(MAX_ERROR),
         status: TIME_BAD,
-        kind: kind,
+        kind,
         remainder: PhaseParts(0),
         leftover: PhaseParts(0),
     }

@@ -11,7 +11,8 @@ pub const QUARTERS: usize = 96;
 const QUARTER: u32 = 900;
 
 // For each quarter-hour how many offsets were accepted, up to 65,535, and the largest size among them (us), 0
-// where there are none.
+// where there are none. Two arrays, as document 01 names them: "summary arrays [0; 96] for counts and for
+// largest offsets".
 #[derive(Clone, Copy, Debug, PartialEq, Eq)]
 pub struct Summary {
     pub counts: [u16; QUARTERS],

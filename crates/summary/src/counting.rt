@@ -66,7 +66,7 @@ pub fn step(c: Clock, e: Event, mut m: Summary) -> Summed
 {
     let stepped = step_in_place(c, e, &mut m);
     Summed {
-        stepped: stepped,
+        stepped,
         summary: m,
     }
 }

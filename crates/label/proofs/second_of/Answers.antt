@@ -1,5 +1,5 @@
--- `label::second_of` meets its contract: each test refuses only bytes that no clock's label has, and what passes
--- all is a label.
+-- `label::second_of` meets its contract: each test refuses only bytes that no clock's label has, and what
+-- passes all is a label.
 use Rattle.std.proofs.Common.{sym, ◌∙◌, arith, rules}
 use Rattle.label.proofs.Accept.{found_alike, not_twenty, not_marked, not_dated, not_timed, too_late, is_label}
 use Rattle.label.proofs.DayTime.{shown_alike, sixty_alike}

@@ -1,5 +1,5 @@
--- `label::text::put_label` meets its contract: its parts are the century, the year in it with the month and the
--- day, and the time, with a mark after each of the last two.
+-- `label::text::put_label` meets its contract: its parts are the century, the year in it with the month and
+-- the day, and the time, with a mark after each of the last two.
 use Rattle.std.proofs.Common.{◌≡◌, ◌*◌, ◌/◌, ◌%◌, ◌-◌, ◌∙◌, arith, rules}
 use Rattle.label.specs.Label.{label_of}
 use Rattle.label.proofs.Digits.{tens_of_year, units_of_year}

@@ -1,6 +1,6 @@
--- `playback::put_quarters` meets its contract. The loop's invariant: the lines of the quarter-hours before the
--- next one are in the buffer, as those of so many steps of any run that has come to the end of its bytes. The
--- measure is the number of quarter-hours that are left.
+-- `playback::put_quarters` meets its contract. The loop's invariant: the lines of the quarter-hours before
+-- the next one are in the buffer, as those of so many steps of any run that has come to the end of its
+-- bytes. The measure is the number of quarter-hours that are left.
 use mathlib.Core.Path.{◌≡◌}
 use Prim.Native.Nat.{◌+◌, ◌-◌}
 use lib.ListN.{length}

@@ -1,5 +1,5 @@
--- `program::read_full` reads on behind what was read before: the bytes of both, joined, are what the input has
--- lost.
+-- `program::read_full` reads on behind what was read before: the bytes of both, joined, are what the input
+-- has lost.
 use Rattle.std.proofs.Common.{◌≡◌, ℕ, ◌+◌, ◌-◌, ◌≤◌, List, ◌++◌, rules, arith, length, take, slice_range, sym, ap, ◌∙◌, subst, le_refl, drop_at, length-take-le}
 use Rattle.std.proofs.lemmas.Slice.{take-put_mid_below}
 use Rattle.std.specs.Io.KnownBytes.{Consumes}

@@ -1,5 +1,5 @@
--- `clock::jump::Jump::advance`: each step fits its type, so that microseconds, phase and leftover are those of
--- `jump_of`.
+-- `clock::jump::Jump::advance`: each step fits its type, so that microseconds, phase and leftover are those
+-- of `jump_of`.
 use Rattle.state.proofs.Ok.{ok}
 use Rattle.clock.proofs.JumpLaws.{jumpReads, read_ticks, fits_together, fits_counted, fits_begin, fits_steps, fits_sums, fits_wholes, fits_left, fits_phase_left, fits_later, later_non_neg, fits_micros_later}
 use Rattle.clock.proofs.jump.Jump.advance.Goals as goal

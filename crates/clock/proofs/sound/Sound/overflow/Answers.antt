@@ -1,4 +1,5 @@
--- `clock::sound::Sound::overflow`: a tick that reaches the end of its second, by whether that is the last one.
+-- `clock::sound::Sound::overflow`: a tick that reaches the end of its second, by whether that is the last
+-- one.
 use borrow.Author.Tests.{eq-eqb, ne_eqb}
 use Prim.Native.Nat.{◌-◌}
 use native.Mathlib.Omega.{arith}

@@ -1,4 +1,5 @@
--- `label::fields::Time::second_of_day` meets its contract: each test refuses only what no second of a day shows.
+-- `label::fields::Time::second_of_day` meets its contract: each test refuses only what no second of a day
+-- shows.
 use Rattle.std.proofs.Common.{refl}
 use Rattle.label.proofs.DayTime.{no_minute, minute_found, usual, repeated}
 use Rattle.label.proofs.fields.Time.second_of_day.Goals as goal

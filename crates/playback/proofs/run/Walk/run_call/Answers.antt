@@ -1,5 +1,5 @@
--- `playback::Walk::run_call` meets its contract: the line of an accepted reading, which is a print, or that of a
--- refusal; and the summary moved by the call.
+-- `playback::Walk::run_call` meets its contract: the line of an accepted reading, which is a print, or that
+-- of a refusal; and the summary moved by the call.
 use mathlib.Core.Path.{◌≡◌, sym, ◌∙◌, ap}
 use mathlib.Core.Bool.{true, false, ◌&&◌}
 use native.Mathlib.Omega.{arith}

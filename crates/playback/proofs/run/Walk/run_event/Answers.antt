@@ -1,4 +1,5 @@
--- `playback::Walk::run_event` meets its contract: many ticks with the line of their refusal, nothing, or a call.
+-- `playback::Walk::run_event` meets its contract: many ticks with the line of their refusal, nothing, or a
+-- call.
 use mathlib.Core.Path.{refl, ◌∙◌, ap}
 use native.Mathlib.Omega.{arith}
 use Rattle.state.specs.declared.outcome.Outcome.{Outcome}

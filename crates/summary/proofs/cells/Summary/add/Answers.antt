@@ -1,5 +1,5 @@
--- `summary::cells::Summary::add`: a count and a largest are put back where they were read; a count stops where its
--- type does.
+-- `summary::cells::Summary::add`: a count and a largest are put back where they were read; a count stops
+-- where its type does.
 use mathlib.Core.Path.{◌∙◌}
 use Rattle.std.proofs.Math.Nat.{min_comm}
 use Rattle.summary.specs.Summary.{with_offset}
