@@ -69,7 +69,7 @@ fn is_reading(call: event::Call) -> bool
 
 // How far a run has come with its events: its clock, the place of the next event, whether bytes that hold none
 // have ended it; and the place after its lines in the lent buffer. It goes on by value, so that it stays in
-// registers: with the run itself lent, a replay of 6,000 ticks takes 4,347 instructions, and not 3,313.
+// registers: with the run itself lent, a replay of 6,000 ticks takes a third more instructions.
 #[derive(Clone, Copy)]
 struct Walk {
     clock: Clock,
