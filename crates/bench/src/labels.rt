@@ -6,6 +6,7 @@ use workload::Checksum;
 // Some thirty days and a few hours: from one label's second to the next one's.
 const STEP: u64 = 2654435;
 
+// Seconds alone, where `workload::later` moves the rollovers too.
 fn later(c: Clock) -> Clock {
     Clock {
         seconds: ((u64::from(c.seconds) + STEP) % 4294967296) as u32,

@@ -17,6 +17,7 @@ const TOLERANCE: u32 = 100;
 // What a share is of the offset that is left, at time constant 0.
 const SHARE_DIVISOR: i32 = 1024;
 
+// `label` has this number too, in private: a public constant would want a promise.
 const LAST_SECOND_OF_DAY: u32 = SECONDS_PER_DAY - 1;
 
 // The second and the status that a leap step leads to.

@@ -1,6 +1,6 @@
 // The lines that a run writes, each into a lent buffer that has room for it. The buffer and the place in it
 // are two parameters, and no writer holds them: each of its methods would have to say which buffer it still
-// holds.
+// holds, and that there is room.
 ghost use Rattle.std.specs.Prelude.{◌≡◌, true, ◌++◌, ◌+◌, ◌≤◌, ◌<◌, length};
 ghost use Rattle.state.specs.Refusal.{refusal_number};
 ghost use Rattle.state.specs.State.{in_range};
