@@ -48,7 +48,7 @@ pub(crate) fn writes(values: &Values, count: u64) -> Checksum {
     sum
 }
 
-// A record, and its length.
+// A record, and its length, in a fixed array, since no program here has a heap.
 #[derive(Clone, Copy)]
 struct Record {
     bytes: [u8; 64],

@@ -220,7 +220,7 @@ fn same_reading(s: State, c: Clock) -> bool {
 }
 
 // An event by its own call and as a step of a list, where the second has answered `m`; and the clock that it
-// meets.
+// meets. Clock, event and answer go on as three: a case of all in one struct would be taken apart again here.
 pub(crate) fn same_event(s: State, row: &[u64; ROW], m: Answer) -> bool {
     let c = clock_of(s);
     same_reading(s, c)
