@@ -1,6 +1,5 @@
 // Labels, written and read.
-use clock::{Clock, KIND_256, fresh};
-use state::Refusal;
+use clock::{Clock, KIND_256, Refusal, fresh};
 use workload::Checksum;
 
 // Some thirty days and a few hours: from one label's second to the next one's.

@@ -1,6 +1,6 @@
 // Numbers, read, and written and read back.
+use clock::Refusal;
 use number::Number;
-use state::Refusal;
 use workload::Checksum;
 
 // The value and the place after it, or the refusal and no place.

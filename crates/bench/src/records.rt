@@ -1,7 +1,6 @@
 // Records, written and read.
 use crate::clocks::after_requests;
-use clock::{Clock, KIND_256, Micros, PhaseUnits, fresh};
-use state::Refusal;
+use clock::{Clock, KIND_256, Micros, PhaseUnits, Refusal, fresh};
 use workload::{Checksum, Values};
 
 // The clock at another time of its second.

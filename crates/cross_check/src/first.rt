@@ -42,7 +42,8 @@ fn mapped(v: i32) -> u64 {
     Signed::new(v < 0, u64::from(v.unsigned_abs())).mapped()
 }
 
-// The clock of a state; every field that is drawn or worked out fits.
+// The clock of a state, by a function and no `From`: it is right only of fields that fit, as every field that
+// is drawn or worked out does.
 fn clock_of(s: State) -> Clock {
     Clock {
         seconds: word(s.seconds),

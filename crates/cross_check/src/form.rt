@@ -1,6 +1,7 @@
 // Document 01's number form, a second time: a number's end is found first, then its value is worked out from
 // the last group to the first. Rows of numbers, as records and events have them, are written and read by a
-// mask: bit k says that number k is there.
+// mask: bit k says that number k is there. A mask and no struct of options: which numbers are there follows
+// from numbers of the row itself, its version or its mode.
 use crate::refusals::Refusal;
 
 // How many numbers a row has: as many as the longest record. An event has fewer.

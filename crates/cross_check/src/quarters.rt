@@ -21,8 +21,8 @@ struct Offset {
     mapped: u64,
 }
 
-// The accepted offsets of a list, in its order, the free places last; and what stood in the quarter-hours
-// before the list, which is nothing for 0.
+// The accepted offsets of a list, in its order, the free places last, in a fixed array, since no program here
+// has a heap; and what stood in the quarter-hours before the list, which is nothing for 0.
 #[derive(Clone, Copy)]
 pub(crate) struct Taken {
     offsets: [Option<Offset>; KEPT],

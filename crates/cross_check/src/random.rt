@@ -302,7 +302,8 @@ fn some_catch_up_row(case: u64) -> [u64; ROW] {
     catch_up_row(n, pick(many, 1, draw(case, 88) % 2))
 }
 
-// An event of the code: its numbers as they stand in a history. Code 4 is a catch-up of a list; in a history
+// An event of the code, a number and no enum, since one that is none is drawn too: its numbers as they stand
+// in a history. Code 4 is a catch-up of a list; in a history
 // it stands alone, and asks for the summary.
 pub(crate) fn row(case: u64, code: u64) -> [u64; ROW] {
     match code {

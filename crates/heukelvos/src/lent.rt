@@ -7,7 +7,7 @@ ghost use Rattle.heukelvos.specs.Lent.{Kept, counted};
 
 use clock::{CaughtUp, Clock};
 
-// One tick.
+// One tick. The refusal is told as its number, which C reads.
 #[unsafe(no_mangle)]
 pub extern "C" fn heukelvos_tick_in_place(c: &mut Clock) -> u8
     ensures { (result ≡ (tick_of c.old).refusal)

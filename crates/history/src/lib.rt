@@ -64,7 +64,8 @@ fn setting_at(bytes: &[u8], at: usize) -> Result<Entry, Refusal>
     )
 }
 
-// The field that a bit of the mode selects; else 0, of no bytes.
+// The field that a bit of the mode selects; else 0, of no bytes. The bit is a number, one of ADJ_.., and is
+// tested here: the test that `request` has is its own, since it asks for a bit that is not 0.
 fn field_at(bytes: &[u8], at: usize, mode: u64, bit: u64) -> Result<Number, Refusal>
     requires { 0 < bit }
     ensures { Number·told result ≡ field_at mode bit bytes.now at }

@@ -12,7 +12,8 @@ const ZERO: u32 = 0x30;
 
 const TEN_ZEROS: u32 = 10 * ZERO;
 
-// More than any four digits say.
+// More than any four digits say. A number and no Option: it fails the tests that every date and time meets,
+// where a None would be asked for at each of seven pairs.
 const NO_PAIR: u32 = 10000;
 
 // What an inserted second shows, and the minute of a day that has one at its end.

@@ -40,8 +40,9 @@ fn ended(value: u64, unit: u64, next: usize) -> Result<Number, Refusal>
     Ok(Number { value, next })
 }
 
-// The number that starts at `at`, without a loop: most numbers have one or two bytes, and for the others too
-// straight groups take less.
+// The number that starts at `at`, without a loop: most numbers have one or two bytes, and for the others
+// too straight groups take less. Bytes and place are two: a struct of both would be taken apart again at
+// each call.
 pub fn read(bytes: &[u8], at: usize) -> Result<Number, Refusal>
     ensures { told result ≡ number_at bytes.now at }
 {

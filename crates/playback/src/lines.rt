@@ -25,7 +25,7 @@ fn put(out: &mut [u8], at: usize, text: &[u8]) -> usize
     at + text.len()
 }
 
-// The last decimal digit of n, in ASCII.
+// The last decimal digit of n, in ASCII; by hand, as `put_decimal`, which is made of it.
 fn digit(n: u32) -> u8
     ensures { result ≡ Label·digit n }
 {

@@ -4,7 +4,8 @@ ghost use Rattle.record.specs.Layout.{numbers_of};
 
 use state::Clock;
 
-// The version that is written, and the last of those that are read: they are 1 to 4.
+// The version that is written, and the last of those that are read: they are 1 to 4. A number and no enum,
+// since what a record holds is asked by order, from a version on.
 pub(crate) const VERSION: u32 = 4;
 
 // The first versions that hold the kind of the device, and remainder and leftover.

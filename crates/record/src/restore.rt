@@ -44,7 +44,7 @@ fn refused(refusal: Refusal) -> Restored
 }
 
 // The clock that the bytes are a record of: group by group, and then nothing may follow. With `?` for each
-// group, in a function that gives a Result, a reading took 537 instructions in the place of 470.
+// group, in a function that gives a Result, a reading takes 537 instructions in the place of 470.
 pub fn read(bytes: &[u8]) -> Restored
     ensures { result ≡ reading_of bytes.now }
 {
@@ -85,8 +85,7 @@ pub fn read(bytes: &[u8]) -> Restored
     Restored { refusal: 0, clock }
 }
 
-// The groups of fields. Each field's answer is taken apart by `let .. else`, the form that document 01 names;
-// `?` would say the same.
+// The groups of fields. Each field's answer is taken apart by `let .. else`, the form that document 01 names.
 
 // Version and kind, which stand at the beginning.
 fn head_at(bytes: &[u8]) -> Result<Read<Head>, Refusal>

@@ -30,7 +30,8 @@ fn count_call(c: Clock, call: Call, m: &mut Summary)
     }
 }
 
-// Counts the offset of an event that was answered with a refusal, or 0, on the clock that it got.
+// Counts the offset of an event that was answered with a refusal, or 0, as `Stepped` holds it, on the clock
+// that it got.
 fn count_event(c: Clock, e: Event, refusal: u8, m: &mut Summary)
     requires { refusal ≡ (step_of c e).refusal }
     ensures { MovedInPlace c e m.old m.new }

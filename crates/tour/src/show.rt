@@ -1,6 +1,5 @@
 // Lines of output.
-use clock::Clock;
-use state::Refusal;
+use clock::{Clock, Refusal};
 use std::io;
 
 pub(crate) fn show_count(rt: &impl Print, what: &str, n: u64) -> io::Result<()> {
@@ -20,7 +19,7 @@ pub(crate) fn show_clock(rt: &impl Print, what: &str, c: Clock) -> io::Result<()
     )
 }
 
-// A refusal by its number and its words. 0 is no refusal's.
+// A refusal by its number, as answers hold it, and its words. 0 is no refusal's.
 pub(crate) fn show_refusal(rt: &impl Print, what: &str, n: u8) -> io::Result<()> {
     match Refusal::try_from(n) {
         Ok(refusal) => println!(rt; "{what}: refused with {n}, {refusal}"),
