@@ -72,8 +72,8 @@ impl<'a> Reader<'a> {
     }
 }
 
-// Bytes that numbers are written into, and the place after the last of them, which may lie behind their end. A
-// fixed array, since no program here has a heap.
+// Bytes that numbers are written into, and the place after the last of them, which may lie behind their
+// end. A fixed array, since no program here has a heap.
 #[derive(Clone, Copy)]
 pub(crate) struct Draft {
     pub(crate) text: [u8; 64],

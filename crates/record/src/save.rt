@@ -15,8 +15,8 @@ pub fn write(c: Clock, buf: &mut [u8]) -> Result<usize, Refusal>
     if !in_range(c) {
         return Err(Refusal::State);
     }
-    // Written apart first, in a fixed array, since there is no heap: how many bytes there are is known then, and
-    // a refused write leaves the buffer.
+    // Written apart first, in a fixed array, since there is no heap: how many bytes there are is known
+    // then, and a refused write leaves the buffer.
     let mut text = [0u8; ROOM];
     let n = number::write_all(&mut text, 0, &numbers(c)).unwrap();
     if buf.len() < n {

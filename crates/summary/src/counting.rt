@@ -17,8 +17,8 @@ fn size_of(o: AskedOffset) -> u32
     o.0.unsigned_abs() as u32
 }
 
-// Counts the offset of an accepted call, if it has one. The bit is tested here: the test that `request` has is
-// its own, since it asks for a bit that is not 0.
+// Counts the offset of an accepted call, if it has one. The bit is tested here: the test that `request` has
+// is its own, since it asks for a bit that is not 0.
 fn count_call(c: Clock, call: Call, m: &mut Summary)
     requires { (answer_of c call).refusal ≡ 0 }
     ensures { m.new ≡ after_call c call m.old }
