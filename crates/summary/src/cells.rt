@@ -1,6 +1,6 @@
 // The cells of a summary, one for each quarter-hour of the UTC day.
-ghost use Rattle.std.specs.Prelude.{◌≡◌, ◌<◌};
-ghost use Rattle.summary.specs.Summary.{quarters, quarter_of, empty_summary, with_offset};
+ghost use Rattle.std.specs.Prelude.{◌≡◌, ◌<◌, ◌+◌, min, max};
+ghost use Rattle.summary.specs.Summary.{quarters, quarter_of, empty_summary, greatest_count, with_offset};
 
 use clock::SECONDS_PER_DAY;
 
@@ -36,13 +36,26 @@ fn quarter_of(seconds: u32) -> usize
     (seconds % SECONDS_PER_DAY / QUARTER) as usize
 }
 
+// A count stops at the greatest number that its type has.
+fn one_more(n: u16) -> u16
+    ensures { result ≡ min greatest_count (n + 1) }
+{
+    n.saturating_add(1)
+}
+
+fn larger(a: u32, b: u32) -> u32
+    ensures { result ≡ max a b }
+{
+    a.max(b)
+}
+
 impl Summary {
-    // One more offset, of a size (us), at a second. A count stops at the greatest number that its type has.
+    // One more offset, of a size (us), at a second.
     pub(crate) fn add(&mut self, seconds: u32, size: u32)
         ensures { self.new ≡ with_offset (quarter_of seconds) size self.old }
     {
         let quarter = quarter_of(seconds);
-        self.counts[quarter] = self.counts[quarter].saturating_add(1);
-        self.largest[quarter] = self.largest[quarter].max(size);
+        self.counts[quarter] = one_more(self.counts[quarter]);
+        self.largest[quarter] = larger(self.largest[quarter], size);
     }
 }
