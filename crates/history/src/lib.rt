@@ -2,7 +2,7 @@
 // place of any bytes.
 #![tactic(auto)]
 
-ghost use Rattle.std.specs.Prelude.{◌≡◌, ◌<◌};
+ghost use Rattle.std.specs.Prelude.{◌≡◌, ◌<◌, ◌%◌};
 ghost use Rattle.number.specs.Reading.{told as Number·told};
 ghost use Rattle.history.specs.declared.Event.TheVariants.{Call};
 ghost use Rattle.history.specs.Event.{found, told, offset_asked, frequency_asked, field_at, ticks_at, setting_at, request_at, summary_at, event_at, asks_summary};
@@ -90,12 +90,18 @@ fn frequency_of(n: u64) -> AskedFrequency
     AskedFrequency(unmap(n))
 }
 
+// A mode above 63 brings the fields of mode mod 64, before the request is refused for it.
+fn field_bits(mode: u64) -> u64
+    ensures { result ≡ mode % 64 }
+{
+    mode % 64
+}
+
 fn request_at(bytes: &[u8], at: usize) -> Result<Entry, Refusal>
     ensures { told result ≡ request_at bytes.now at }
 {
     let mode = number::read(bytes, at)?;
-    // A mode above 63 brings the fields of mode mod 64, before the request is refused for it.
-    let bits = mode.value % 64;
+    let bits = field_bits(mode.value);
     let offset = field_at(bytes, mode.next, bits, ADJ_OFFSET)?;
     let frequency = field_at(bytes, offset.next, bits, ADJ_FREQUENCY)?;
     let maxerror = field_at(bytes, frequency.next, bits, ADJ_MAXERROR)?;
