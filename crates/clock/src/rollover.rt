@@ -104,8 +104,8 @@ impl Sound {
         (PhaseUnits(adjustment), frequency.remainder)
     }
 
-    // A rollover: second_overflow() of RFC 1589. The leap step is looked for last: before the increments it
-    // costs a tick two instructions more, and many ticks in one call 3 in 100 fewer.
+    // A rollover: second_overflow() of RFC 1589. The leap step is looked for behind the increments: before
+    // them it costs a tick two instructions more.
     pub(crate) fn rollover(self) -> Sound
         requires { self.clock.seconds < last_second }
         ensures { result.clock ≡ rolled_over self.clock }
